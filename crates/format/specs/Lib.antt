@@ -1,0 +1,4 @@
+pub mod Commands
+pub mod Faults
+pub mod Reading
+pub mod Entries

@@ -1,0 +1,13 @@
+pub mod Constants
+pub mod Room
+pub mod Stack
+pub mod Distinct
+pub mod Turns
+pub mod FirstFaults
+pub mod Accepting
+pub mod Assembling
+pub mod Completing
+pub mod Verdicts
+pub mod Filling
+pub mod TableTurns
+pub mod TableCompleting
