@@ -26,8 +26,8 @@ code-of at high low = nonzero at (high * 256 + low)
 abbrev pub rank-of : ℕ → ℕ → Result ℕ ByteFault
 rank-of at rank = cond (eqb rank 0) (Err (RankOutside at)) (cond (ltb 4 rank) (Err (RankOutside at)) (Ok rank))
 
--- An operand that is in order goes into the command; the fault of one that is not is the command's.
-abbrev pub then : {X Y : Type 0} → Result X ByteFault → (X → Result Y ByteFault) → Result Y ByteFault
+-- What is in order goes on; the fault of what is not is the fault of the whole.
+abbrev pub then : {X Y F : Type 0} → Result X F → (X → Result Y F) → Result Y F
 then (Ok x) next = next x
 then (Err fault) next = Err fault
 

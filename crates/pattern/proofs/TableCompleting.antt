@@ -18,7 +18,7 @@ use Rattle.format.specs.declared.fault.PatternFault.{PatternFault}
 use Rattle.format.specs.Commands.{PatternOperands}
 use Rattle.format.specs.Entries.{entry-of, entry-command}
 use Rattle.pattern.specs.Expressions.{Expr, commands, table}
-use Rattle.pattern.specs.Judging.{Standing, start, after, standing-from, standing, admission, checked, go-on, table-from, table-judged}
+use Rattle.pattern.specs.Judging.{Standing, start, after, standing-from, standing, admission, checked, table-from, table-judged}
 use Rattle.pattern.specs.Patterns.{Limits, NoTable}
 use Rattle.format.specs.Reading.{then, rank-of}
 use Rattle.pattern.proofs.Assembling.{standing-positions}
@@ -44,8 +44,8 @@ complete (c ∷ cs) before ops f few named =
     let fits : length (after (standing before) c .positions) ≤ 64 = omega (arith, positions-grow (after (standing before) c) cs, named) in
     let grown = standing-push start before c in
     let next = λ (d : PatternCommand). table-from (before ++ d ∷ []) (map entry-of cs) in
-    ap (λ r. go-on (checked r (admission (512 - at) at (standing before))) next) (entry-read at c (ops .0))
-    ∙ ap (λ r. go-on r next) (admits (512 - at) at (standing before) c (f .0) fits (omega (arith, few)))
+    ap (λ r. then (checked r (admission (512 - at) at (standing before))) next) (entry-read at c (ops .0))
+    ∙ ap (λ r. then r next) (admits (512 - at) at (standing before) c (f .0) fits (omega (arith, few)))
     ∙ complete cs (before ++ c ∷ []) (ops .1)
     (subst (λ (s : Standing). Fed (s .pending) cs 1) (sym grown) (f .1))
     (omega (arith, few, length-push before c))

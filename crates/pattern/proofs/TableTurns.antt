@@ -17,7 +17,8 @@ use Rattle.format.specs.declared.fault.PatternFault.the-variants.{NotOnePart}
 use Rattle.pattern.specs.declared.judge.Judge.{Judge}
 use Rattle.format.specs.Commands.{PatternOperands}
 use Rattle.format.specs.Entries.{entry-of, entry-command}
-use Rattle.pattern.specs.Judging.{Standing, start, after, standing, admission, checked, ending, go-on, table-from, table-judged}
+use Rattle.format.specs.Reading.{then}
+use Rattle.pattern.specs.Judging.{Standing, start, after, standing, admission, checked, ending, table-from, table-judged}
 use Rattle.pattern.specs.Patterns.{InOrder, TableOf}
 use Rattle.pattern.specs.Positions.{positions}
 use Rattle.pattern.specs.Stands.{stands}
@@ -40,17 +41,17 @@ none-yet table judge s f = record { before = []; number = refl; free = omega (ar
 
 module _ {table : List Entry} {i : ℕ} {judge : Judge} (so : Tabled table i judge) where
   -- the next entry, at any default
-  next : (d : Entry) → i < length table → table-judged table ≡ go-on (checked (entry-command i (getD table i d)) (admission (judge .free) i (stands judge))) (λ c. table-from (so .before ++ c ∷ []) (drop (i + 1) table))
+  next : (d : Entry) → i < length table → table-judged table ≡ then (checked (entry-command i (getD table i d)) (admission (judge .free) i (stands judge))) (λ c. table-from (so .before ++ c ∷ []) (drop (i + 1) table))
   next d h =
       let free : 512 - i ≡ judge .free = omega (arith, so .free) in
       so .left
       ∙ ap (table-from (so .before)) (drop-more table i d h)
-      ∙ ap (λ n. go-on (checked (entry-command n (getD table i d)) (admission (512 - n) n (standing (so .before)))) (λ c. table-from (so .before ++ c ∷ []) (drop (i + 1) table))) (so .number)
-      ∙ ap (λ n. go-on (checked (entry-command i (getD table i d)) (admission n i (standing (so .before)))) (λ c. table-from (so .before ++ c ∷ []) (drop (i + 1) table))) free
-      ∙ ap (λ s. go-on (checked (entry-command i (getD table i d)) (admission (judge .free) i s)) (λ c. table-from (so .before ++ c ∷ []) (drop (i + 1) table))) (sym (so .amounts))
+      ∙ ap (λ n. then (checked (entry-command n (getD table i d)) (admission (512 - n) n (standing (so .before)))) (λ c. table-from (so .before ++ c ∷ []) (drop (i + 1) table))) (so .number)
+      ∙ ap (λ n. then (checked (entry-command i (getD table i d)) (admission n i (standing (so .before)))) (λ c. table-from (so .before ++ c ∷ []) (drop (i + 1) table))) free
+      ∙ ap (λ s. then (checked (entry-command i (getD table i d)) (admission (judge .free) i s)) (λ c. table-from (so .before ++ c ∷ []) (drop (i + 1) table))) (sym (so .amounts))
 
   pub bad-entry : (d : Entry) (f : PatternFault) → i < length table → checked (entry-command i (getD table i d)) (admission (judge .free) i (stands judge)) ≡ Err f → table-judged table ≡ Err f
-  bad-entry d f h e = next d h ∙ ap (λ r. go-on r (λ c. table-from (so .before ++ c ∷ []) (drop (i + 1) table))) e
+  bad-entry d f h e = next d h ∙ ap (λ r. then r (λ c. table-from (so .before ++ c ∷ []) (drop (i + 1) table))) e
 
   pub one-more : (d : Entry) (c : PatternCommand) (j : Judge) → i < length table → entry-command i (getD table i d) ≡ Ok c → PatternOperands c → getD table i d ≡ entry-of c → admission (judge .free) i (stands judge) c ≡ Ok c → stands j ≡ after (stands judge) c → judge .free ≡ j .free + 1 → Tabled table (i + 1) j
   one-more d c j h e operands is r a f =
@@ -62,8 +63,8 @@ module _ {table : List Entry} {i : ℕ} {judge : Judge} (so : Tabled table i jud
         amounts = a ∙ ap (λ s. after s c) (so .amounts) ∙ sym (standing-push start (so .before) c);
         left =
             next d h
-            ∙ ap (λ x. go-on (checked x (admission (judge .free) i (stands judge))) (λ c. table-from (so .before ++ c ∷ []) (drop (i + 1) table))) e
-            ∙ ap (λ x. go-on x (λ c. table-from (so .before ++ c ∷ []) (drop (i + 1) table))) r;
+            ∙ ap (λ x. then (checked x (admission (judge .free) i (stands judge))) (λ c. table-from (so .before ++ c ∷ []) (drop (i + 1) table))) e
+            ∙ ap (λ x. then x (λ c. table-from (so .before ++ c ∷ []) (drop (i + 1) table))) r;
         in-order = in-order-push 512 start (so .before) c (so .in-order) operands (fits .1) (fits .2) (omega (arith, so .free, so .number, f));
         holds = take-more table i d h ∙ ap (λ l. l ++ getD table i d ∷ []) (so .holds) ∙ ap (λ e. map entry-of (so .before) ++ e ∷ []) is ∙ sym (map-push entry-of (so .before) c);
       }

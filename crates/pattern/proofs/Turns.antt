@@ -19,8 +19,8 @@ use Rattle.format.specs.declared.fault.PatternFault.{PatternFault}
 use Rattle.format.specs.declared.fault.PatternFault.the-variants.{Bytes, NotOnePart, TableFull}
 use Rattle.pattern.specs.declared.judge.Judge.{Judge}
 use Rattle.format.specs.Commands.{pattern-bytes, PatternOperands}
-use Rattle.pattern.specs.Judging.{Standing, start, after, standing-from, standing, admission, checked, next-command, ending, go-on, judged-from, judged}
-use Rattle.format.specs.Reading.{pattern-command-at, Stands-at}
+use Rattle.pattern.specs.Judging.{Standing, start, after, standing-from, standing, admission, checked, next-command, ending, judged-from, judged}
+use Rattle.format.specs.Reading.{then, pattern-command-at, Stands-at}
 use Rattle.pattern.specs.Stands.{stands}
 use Rattle.format.proofs.FileCommands.{pattern-some}
 
@@ -34,7 +34,7 @@ next-turn : ℕ → List ℕ → List PatternCommand → ℕ → PatternCommand 
 next-turn zero file before at c = Err (TableFull at)
 next-turn (suc free) file before at c = judged-from free file (before ++ c ∷ []) (at + length (pattern-bytes c))
 
-judged-turn : (free : ℕ) (file : List ℕ) (before : List PatternCommand) (at : ℕ) → at < length file → judged-from free file before at ≡ go-on (next-command free file (standing before) at) (next-turn free file before at)
+judged-turn : (free : ℕ) (file : List ℕ) (before : List PatternCommand) (at : ℕ) → at < length file → judged-from free file before at ≡ then (next-command free file (standing before) at) (next-turn free file before at)
 unfolding next-turn
 judged-turn zero file before at h = cond-false (leb (length file) at) _ _ (lt-leb (length file) at h)
 judged-turn (suc free) file before at h = cond-false (leb (length file) at) _ _ (lt-leb (length file) at h)
@@ -47,20 +47,20 @@ module _ (free : ℕ) (file : List ℕ) (before : List PatternCommand) (at : ℕ
   pub judged-bytes : (f : ByteFault) → pattern-command-at file at ≡ Err f → judged-from free file before at ≡ Err (Bytes f)
   judged-bytes f e =
       judged-turn free file before at h
-      ∙ ap (λ r. go-on (checked r (admission free at (standing before))) (next-turn free file before at)) e
+      ∙ ap (λ r. then (checked r (admission free at (standing before))) (next-turn free file before at)) e
 
   pub judged-refused : (c : PatternCommand) (f : PatternFault) → pattern-command-at file at ≡ Ok c → admission free at (standing before) c ≡ Err f → judged-from free file before at ≡ Err f
   judged-refused c f e r =
       judged-turn free file before at h
-      ∙ ap (λ x. go-on (checked x (admission free at (standing before))) (next-turn free file before at)) e
-      ∙ ap (λ x. go-on x (next-turn free file before at)) r
+      ∙ ap (λ x. then (checked x (admission free at (standing before))) (next-turn free file before at)) e
+      ∙ ap (λ x. then x (next-turn free file before at)) r
 
   pub judged-more : (c : PatternCommand) (n : ℕ) → pattern-command-at file at ≡ Ok c → admission free at (standing before) c ≡ Ok c → free ≡ suc n → judged-from free file before at ≡ judged-from n file (before ++ c ∷ []) (at + length (pattern-bytes c))
   unfolding next-turn
   judged-more c n e r f =
       judged-turn free file before at h
-      ∙ ap (λ x. go-on (checked x (admission free at (standing before))) (next-turn free file before at)) e
-      ∙ ap (λ x. go-on x (next-turn free file before at)) r
+      ∙ ap (λ x. then (checked x (admission free at (standing before))) (next-turn free file before at)) e
+      ∙ ap (λ x. then x (next-turn free file before at)) r
       ∙ ap (λ k. next-turn k file before at c) f
 
 -- Where the command ends that stands at `at`.

@@ -19,7 +19,7 @@ use Rattle.pattern.specs.declared.position.Position.{Position}
 use Rattle.format.specs.Commands.{pattern-bytes, takes}
 use Rattle.format.specs.Entries.{entry, entry-command}
 use Rattle.pattern.specs.Positions.{new-position}
-use Rattle.format.specs.Reading.{pattern-command-at}
+use Rattle.format.specs.Reading.{then, pattern-command-at}
 
 -- What commands amount to: how many parts are pending, and which positions are named.
 pub record Standing : Type 0 where
@@ -60,18 +60,14 @@ next-command free file s at = checked (pattern-command-at file at) (admission fr
 abbrev pub ending : List PatternCommand → ℕ → Result (List PatternCommand) PatternFault
 ending cs at = cond (eqb (standing cs .pending) 1) (Ok cs) (Err (NotOnePart at (standing cs .pending)))
 
-abbrev pub go-on : Result PatternCommand PatternFault → (PatternCommand → Result (List PatternCommand) PatternFault) → Result (List PatternCommand) PatternFault
-go-on (Ok c) next = next c
-go-on (Err fault) next = Err fault
-
 -- The commands of a file from the place `at` on, behind those that were read before it: all commands of the
 -- file, or its first fault. `free` entries of the table are left.
 abbrev pub judged-from : ℕ → List ℕ → List PatternCommand → ℕ → Result (List PatternCommand) PatternFault
 judged-from zero file before at =
-    cond (leb (length file) at) (ending before at) (go-on (next-command zero file (standing before) at) (λ c. Err (TableFull at)))
+    cond (leb (length file) at) (ending before at) (then (next-command zero file (standing before) at) (λ c. Err (TableFull at)))
 judged-from (suc free) file before at =
     cond (leb (length file) at) (ending before at)
-    (go-on (next-command (suc free) file (standing before) at) (λ c. judged-from free file (before ++ c ∷ []) (at + length (pattern-bytes c))))
+    (then (next-command (suc free) file (standing before) at) (λ c. judged-from free file (before ++ c ∷ []) (at + length (pattern-bytes c))))
 
 -- The commands of a pattern file, or its first fault, for a table of `room` entries. A pattern has at most 512
 -- commands.
@@ -95,7 +91,7 @@ parts-before-table = refl
 abbrev pub table-from : List PatternCommand → List Entry → Result (List PatternCommand) PatternFault
 table-from before [] = ending before (length before)
 table-from before (e ∷ es) =
-    go-on (checked (entry-command (length before) e) (admission (512 - length before) (length before) (standing before))) (λ c. table-from (before ++ c ∷ []) es)
+    then (checked (entry-command (length before) e) (admission (512 - length before) (length before) (standing before))) (λ c. table-from (before ++ c ∷ []) es)
 
 -- The commands of a table, or its first fault.
 abbrev pub table-judged : List Entry → Result (List PatternCommand) PatternFault
