@@ -1,6 +1,6 @@
 -- What the readers of a command answer of a whole file: a command exactly where it stands. Once for both kinds
 -- of file, from what is known of the first command of some bytes. Assumes nothing.
-use Rattle.std.proofs.Common.{◌≡◌, ℕ, ◌+◌, ◌-◌, ◌<◌, ◌≤◌, ltb, leb, List, ◌++◌, length, drop, Ok, Err, Result, sym, ap, ◌∙◌, subst, ⊎_elim, arith, Bor, ltb-false, leb-false, MatchResult}
+use Rattle.std.proofs.Common.{◌≡◌, ℕ, ◌+◌, ◌<◌, ◌≤◌, ltb, leb, List, ◌++◌, length, drop, Ok, Err, Result, sym, ap, ◌∙◌, subst, ⊎_elim, arith, Bor, ltb-false, leb-false, MatchResult}
 use Rattle.std.proofs.lemmas.List.{drop-drop, get_or-drop, length-drop, length-append}
 use Rattle.std.proofs.lemmas.Result.{MatchResult-weaker}
 use Rattle.format.specs.declared.fault.ByteFault.{ByteFault}

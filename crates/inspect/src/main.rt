@@ -1,5 +1,7 @@
 // Tells of a pattern file what it holds: each command, each position, or why it is refused.
 // The file is PATTERN in the working directory, or the one that is named; one that can't be read counts as empty.
+#![tactic(auto)]
+
 use listing::list::inspect;
 use std::{env, fs, io};
 

@@ -1,4 +1,6 @@
 // Tests of the crate `links` on examples: the links, their order and the bounds of lent memory, and which refusal comes
-// first. The many patterns of crates/inspect_cases go through the same call.
+// first.
+#![tactic(auto)]
+
 #[cfg(test)]
-mod links;
+mod tables;

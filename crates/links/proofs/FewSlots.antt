@@ -1,9 +1,9 @@
 -- A pattern has at most 253 slots: of its at most 64 positions the first is a constant, since the first command of any
 -- expression is a leaf, and each of the others has at most 4 slots. Assumes nothing.
-use Rattle.std.proofs.Common.{◌≡◌, ℕ, suc, ◌+◌, ◌*◌, ◌≤◌, Bool, true, false, cond, ◌⊎◌, List, [], ◌∷◌, ◌++◌, length, sym, refl, ap, ◌∙◌, subst, inl, inr, ⊎_elim, arith}
+use Rattle.std.proofs.Common.{◌≡◌, ℕ, suc, ◌*◌, ◌≤◌, Bool, true, false, cond, ◌⊎◌, List, [], ◌∷◌, ◌++◌, length, sym, refl, ap, ◌∙◌, subst, inl, inr, ⊎_elim, arith}
 use Rattle.std.proofs.ByRecursion.{All-append}
 use Rattle.std.proofs.lemmas.List.{length-append}
-use Rattle.std.specs.List.{AllByRecursion as All}
+use Rattle.std.specs.List.{AllByRecursion}
 use Rattle.format.specs.declared.command.PatternCommand.{PatternCommand}
 use Rattle.format.specs.declared.command.PatternCommand.TheVariants.{Sum, Leaf, Node, Product, Closure}
 use Rattle.format.specs.Commands.{PatternOperands}
@@ -14,7 +14,7 @@ use Rattle.pattern.specs.Positions.{has_constant, constant, new_constant, new_po
 use Rattle.links.specs.Locality.{Operands}
 use Rattle.links.specs.Numbering.{named}
 use Rattle.links.specs.Slots.{slots, slots_under, child_slots}
-use Rattle.links.proofs.Naming.{Extends, extends_after, extends_self}
+use Rattle.links.proofs.Naming.{extends_after, extends_self}
 use Rattle.links.proofs.NumberLoops.{under_length}
 use Rattle.links.proofs.Splices.{all_split}
 
@@ -22,25 +22,25 @@ use Rattle.links.proofs.Splices.{all_split}
 abbrev Low : Position → Type 0
 Low p = p.rank ≤ 4
 
-constant_low : (c : ℕ) (ps : List Position) → All Low (new_constant c ps)
+constant_low : (c : ℕ) (ps : List Position) → AllByRecursion Low (new_constant c ps)
 constant_low c ps = go (has_constant c ps)
   where
-    go : (b : Bool) → All Low (cond b [] (constant c ∷ []))
+    go : (b : Bool) → AllByRecursion Low (cond b [] (constant c ∷ []))
     go true = tt
     go false = (omega arith, tt)
 
-new_low : (c : PatternCommand) (ps : List Position) → PatternOperands c → All Low (new_position c ps)
+new_low : (c : PatternCommand) (ps : List Position) → PatternOperands c → AllByRecursion Low (new_position c ps)
 new_low (Leaf code) ps h = constant_low code ps
 new_low (Node code rank points) ps h = (h.1.1, tt)
 new_low Sum ps h = tt
 new_low (Product code) ps h = constant_low code ps
 new_low (Closure code) ps h = constant_low code ps
 
-after_low : (cs : List PatternCommand) (ps : List Position) → All PatternOperands cs → All Low ps → All Low (positions_after ps cs)
+after_low : (cs : List PatternCommand) (ps : List Position) → AllByRecursion PatternOperands cs → AllByRecursion Low ps → AllByRecursion Low (positions_after ps cs)
 after_low [] ps o l = l
 after_low (c ∷ cs) ps o l = after_low cs (ps ++ new_position c ps) o.1 (All-append Low ps (new_position c ps) l (new_low c ps o.0))
 
-low_slots : (b : ℕ) (ps : List Position) → All Low ps → length (child_slots b ps) ≤ 4 * length ps
+low_slots : (b : ℕ) (ps : List Position) → AllByRecursion Low ps → length (child_slots b ps) ≤ 4 * length ps
 low_slots b [] l = omega arith
 low_slots b (p ∷ ps) l =
     omega (arith, length-append (slots_under b p.rank) (child_slots (suc b) ps), under_length b p.rank, l.0, low_slots (suc b) ps l.1)
@@ -67,7 +67,7 @@ mutual
       begins_on (commands a) (commands b ++ Product c ∷ []) (begins a (all_split PatternOperands (commands a) (commands b ++ Product c ∷ []) o).0)
   begins (closure c a) o = begins_on (commands a) (Closure c ∷ []) (begins a (all_split PatternOperands (commands a) (Closure c ∷ []) o).0)
 
-  parts_begin : (ps : Parts) → All PatternOperands (parts_commands ps) → (count ps ≡ 0) ⊎ Begins (parts_commands ps)
+  parts_begin : (ps : Parts) → AllByRecursion PatternOperands (parts_commands ps) → (count ps ≡ 0) ⊎ Begins (parts_commands ps)
   parts_begin no_parts o = inl refl
   parts_begin (qs ▸ e) o =
       let os = all_split PatternOperands (parts_commands qs) (commands e) o in
@@ -79,5 +79,5 @@ few_slots e l =
     let b = begins e l.operands in
     let rest = extends_after b.1 (constant b.0 ∷ []) (positions (Leaf b.0 ∷ b.1)) (extends_self (positions (Leaf b.0 ∷ b.1))) in
     let is : named e ≡ constant b.0 ∷ rest.0 = ap positions b.2 ∙ rest.1 in
-    let low = subst (All Low) is (after_low (commands e) [] l.operands tt) in
+    let low = subst (AllByRecursion Low) is (after_low (commands e) [] l.operands tt) in
     omega (arith, ap (λ ps. length (slots ps)) is, low_slots 1 rest.0 low.1, l.few_positions, ap length is)

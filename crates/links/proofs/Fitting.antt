@@ -1,7 +1,7 @@
 -- The trees of an expression have the right ranks, and fit its rules: the root is one of First, and each child one of
 -- Follow. By induction on the expression; a root and what is below it are taken as one tree that stands alone. In a
 -- product the rules of the first part turn into those of the whole wherever a leaf gives way. Assumes nothing.
-use Rattle.std.proofs.Common.{◌≡◌, ℕ, zero, suc, ◌⊎◌, sym, refl, ap, ◌∙◌, subst, inl, inr, ⊎_elim}
+use Rattle.std.proofs.Common.{◌≡◌, ℕ, zero, suc, sym, refl, ap, ◌∙◌, subst, inl, inr, ⊎_elim}
 use Rattle.pattern.specs.Expressions.{Expr, leaf, node, sum, product, closure, Parts, no_parts, ◌▸◌, count}
 use Rattle.links.specs.Trees.{Trees, none, more, width}
 use Rattle.links.specs.Language.{Language, Leaf, Product, Step, In, Below}

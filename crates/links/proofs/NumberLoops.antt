@@ -1,13 +1,13 @@
 -- The loops over positions: the search for a constant's number, and the count of slots. In each, what is left of the
 -- list answers for the whole. Assumes nothing.
-use Rattle.std.proofs.Common.{◌≡◌, ℕ, zero, suc, ◌+◌, ◌<◌, ◌≤◌, Bool, true, false, cond, eqb, List, [], ◌∷◌, ◌++◌, length, get_or, drop, sym, refl, ap, ◌∙◌, append-nil, zero-add, add-one, arith, eq-eqb, ne_eqb}
+use Rattle.std.proofs.Common.{◌≡◌, ℕ, zero, suc, ◌+◌, ◌<◌, ◌≤◌, Bool, true, false, cond, eqb, List, [], ◌∷◌, ◌++◌, length, get_or, drop, sym, refl, ap, ◌∙◌, append-nil, add-one, arith, eq-eqb, ne_eqb}
 use Rattle.std.proofs.lemmas.List.{drop_more, drop_all, length-append, length_push}
 use Rattle.std.proofs.lemmas.Bool.{and_from, and_left, and_right}
 use Rattle.pattern.specs.declared.position.Position.{Position}
 use Rattle.pattern.specs.Positions.{is_constant, has_constant, new_constant, constant}
 use Rattle.links.specs.Numbering.{constant_number}
 use Rattle.links.proofs.Naming.{found as found_there, missed}
-use Rattle.links.specs.Slots.{Slot, child, slots_under, child_slots}
+use Rattle.links.specs.Slots.{child, slots_under, child_slots}
 
 -- the number of a constant, told by the positions that are left from the i-th on
 module _ (code : ℕ) (ps : List Position) (i : ℕ) (d : Position) (h : i < length ps) where

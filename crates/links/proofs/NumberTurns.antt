@@ -1,12 +1,12 @@
 -- Numbering the commands of a table, one after another: what is numbered so far is the front of the numbered
 -- pattern's commands. Assumes nothing.
-use Rattle.std.proofs.Common.{◌≡◌, ℕ, ◌+◌, ◌-◌, ◌<◌, ◌≤◌, List, [], ◌∷◌, ◌++◌, map, length, get_or, take, drop, set, sym, refl, ap, ◌∙◌, subst, arith}
+use Rattle.std.proofs.Common.{◌≡◌, ℕ, ◌+◌, ◌-◌, ◌<◌, ◌≤◌, List, [], ◌∷◌, ◌++◌, length, get_or, take, drop, set, sym, refl, ap, ◌∙◌, subst, arith}
 use native.Mathlib.Nat.{sub-zero}
 use Rattle.std.proofs.ByRecursion.{All-get_or}
 use Rattle.std.proofs.lemmas.List.{length-map, get_or-map, take_more, take_more_set, take_all, take_at, take-append-drop}
-use Rattle.std.specs.List.{AllByRecursion as All}
+use Rattle.std.specs.List.{AllByRecursion}
 use Rattle.format.specs.declared.command.PatternCommand.{PatternCommand}
-use Rattle.format.specs.declared.command.PatternCommand.TheVariants.{Sum, Leaf, Node, Product, Closure}
+use Rattle.format.specs.declared.command.PatternCommand.TheVariants.{Sum, Node, Product, Closure}
 use Rattle.format.specs.declared.entry.Entry.{Entry}
 use Rattle.format.specs.Commands.{PatternOperands}
 use Rattle.format.specs.Entries.{entry_of}
@@ -117,6 +117,6 @@ module _ (e : Expr) (entries : List Entry) (is : entries ≡ table e) (i : ℕ) 
   pub command_there : (d : Entry) (c : PatternCommand) → get_or entries i d ≡ entry_of c → get_or (commands e) i Sum ≡ c
   command_there d c k = entry_known (get_or (commands e) i Sum) c (sym (entry_there d) ∙ k)
 
-  pub no_fault : (d : Entry) → All PatternOperands (commands e) → ((c : PatternCommand) → PatternOperands c → get_or entries i d ≡ entry_of c → ⊥) → ⊥
+  pub no_fault : (d : Entry) → AllByRecursion PatternOperands (commands e) → ((c : PatternCommand) → PatternOperands c → get_or entries i d ≡ entry_of c → ⊥) → ⊥
   no_fault d ops wrong =
       wrong (get_or (commands e) i Sum) (All-get_or PatternOperands (commands e) i Sum (omega (arith, as_many e entries is)) ops) (entry_there d)

@@ -2,7 +2,7 @@
 -- constants of a pattern have different codes, since a constant that is there is not added again, and a node has a
 -- rank above 0. By induction on the pattern, and on the commands. Assumes nothing.
 use Rattle.std.proofs.Common.{◌≡◌, ℕ, zero, suc, Bool, true, false, cond, eqb, ◌⊎◌, List, [], ◌∷◌, ◌++◌, length, sym, refl, ap, ◌∙◌, subst, inl, inr, append-nil, arith, eq-eqb}
-use Rattle.std.specs.List.{AllByRecursion as All}
+use Rattle.std.specs.List.{AllByRecursion}
 use Rattle.std.proofs.lemmas.List.{length_push, get_or_append_left, get_or_push}
 use Rattle.std.proofs.lemmas.Bool.{and_from, or_left, or_right, both_ways, cases_lt}
 use Rattle.format.specs.declared.command.PatternCommand.{PatternCommand}
@@ -97,7 +97,7 @@ apart_next Sum ps o apart = subst Apart (sym (append-nil ps)) apart
 apart_next (Product code) ps o apart = apart_constant code ps apart
 apart_next (Closure code) ps o apart = apart_constant code ps apart
 
-apart_after : (cs : List PatternCommand) (ps : List Position) → All PatternOperands cs → Apart ps → Apart (positions_after ps cs)
+apart_after : (cs : List PatternCommand) (ps : List Position) → AllByRecursion PatternOperands cs → Apart ps → Apart (positions_after ps cs)
 apart_after [] ps o apart = apart
 apart_after (c ∷ cs) ps o apart = apart_after cs (ps ++ new_position c ps) o.1 (apart_next c ps o.0 apart)
 

@@ -2,7 +2,7 @@
 -- constants. By induction on the pattern, over any positions before it and any list that extends those after it.
 -- Assumes nothing.
 use Rattle.std.proofs.Common.{◌≡◌, ℕ, suc, ◌≤◌, List, [], ◌∷◌, ◌++◌, length, sym, refl, ap, ◌∙◌, subst, arith}
-use Rattle.std.specs.List.{AllByRecursion as All}
+use Rattle.std.specs.List.{AllByRecursion}
 use Rattle.std.proofs.lemmas.List.{length-append, length_push}
 use Rattle.format.specs.declared.command.PatternCommand.TheVariants.{Sum, Leaf, Node, Product, Closure}
 use Rattle.format.specs.Commands.{PatternOperands}
@@ -41,7 +41,7 @@ module _ (later : List Position) where
       )
 
   mutual
-    fine_behind : (e : Expr) (ps : List Position) (hi : ℕ) → All PatternOperands (commands e) → Room later (positions_after ps (commands e)) hi → Fine (rank_at later) (length later) (length ps) hi (numbered_behind e ps)
+    fine_behind : (e : Expr) (ps : List Position) (hi : ℕ) → AllByRecursion PatternOperands (commands e) → Room later (positions_after ps (commands e)) hi → Fine (rank_at later) (length later) (length ps) hi (numbered_behind e ps)
     fine_behind (leaf c) ps hi o r = (constant_fine c ps hi r, omega (arith, r.1, after_length ps (Leaf c ∷ [])))
     fine_behind (node c points qs) ps hi o r =
         let os = all_split PatternOperands (parts_commands qs) (Node c (count qs) points ∷ []) o in
@@ -72,7 +72,7 @@ module _ (later : List Position) where
         let all = subst (λ l. Room later l hi) (after_one (commands a) (Closure c) ps) r in
         (fine_behind a ps hi (all_split PatternOperands (commands a) (Closure c ∷ []) o).0 (room_before now (new_constant c now) hi all), constant_fine c now hi all)
 
-    fine_parts_behind : (qs : Parts) (ps : List Position) (hi : ℕ) → All PatternOperands (parts_commands qs) → Room later (positions_after ps (parts_commands qs)) hi → FineParts (rank_at later) (length later) (length ps) hi (parts_behind qs ps)
+    fine_parts_behind : (qs : Parts) (ps : List Position) (hi : ℕ) → AllByRecursion PatternOperands (parts_commands qs) → Room later (positions_after ps (parts_commands qs)) hi → FineParts (rank_at later) (length later) (length ps) hi (parts_behind qs ps)
     fine_parts_behind no_parts ps hi o r = r.1
     fine_parts_behind (qs ▸ e) ps hi o r =
         let os = all_split PatternOperands (parts_commands qs) (commands e) o in

@@ -1,6 +1,6 @@
 -- Working the links of a part: what its own parts give, put together. The numbers are followed as lists: those before
 -- the part's slots stay, and behind them stand the links of the part. Assumes nothing.
-use Rattle.std.proofs.Common.{◌≡◌, ℕ, ◌+◌, ◌-◌, ◌^◌, ◌<◌, ◌≤◌, ◌||◌, List, [], ◌∷◌, ◌++◌, map, length, take, drop, sym, refl, ap, ◌∙◌, subst, append_assoc, append-nil, arith}
+use Rattle.std.proofs.Common.{◌≡◌, ℕ, ◌+◌, ◌-◌, ◌^◌, ◌≤◌, ◌||◌, List, [], ◌∷◌, ◌++◌, map, length, take, drop, sym, ap, ◌∙◌, subst, append_assoc, append-nil, arith}
 use native.Mathlib.Nat.{sub-zero}
 use borrow.Rule.Slice.PartMut.{post_of}
 use lib.Bits.{bit_or}
@@ -8,10 +8,10 @@ use Rattle.std.proofs.ByRecursion.{All-take}
 use Rattle.std.proofs.lemmas.List.{length-append, length-map, length-take-le, length-drop, take_at, take_all, take-take, take-append-drop, drop_at}
 use Rattle.format.specs.declared.command.PatternCommand.{PatternCommand}
 use Rattle.format.specs.declared.command.PatternCommand.TheVariants.{Sum, Leaf, Node, Product, Closure}
-use Rattle.pattern.specs.Expressions.{Expr, leaf, node, sum, product, closure, Parts, no_parts, ◌▸◌, count, commands, parts_commands}
+use Rattle.pattern.specs.Expressions.{Expr, node, product, closure, Parts, count, commands, parts_commands}
 use Rattle.links.specs.declared.part.Part.{Part}
 use Rattle.links.specs.Rows.{holds, any_holds, cut, kept, root_row, root_rows, child_rows, parts_rows}
-use Rattle.links.specs.Working.{Small, Ends, Ready, Worked, ReadyPair, WorkedPair, ReadyParts, Laid, WorkedParts}
+use Rattle.links.specs.Working.{Small, Ends, Ready, Worked, ReadyPair, WorkedPair, Laid, WorkedParts}
 use Rattle.links.proofs.Peeling.{peel_leaf, peel_node, peel_sum, peel_product, peel_closure, product_length, root_rows_length}
 
 -- the numbers keep their length

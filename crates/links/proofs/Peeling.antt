@@ -4,7 +4,7 @@
 use Rattle.std.proofs.Common.{◌≡◌, ℕ, suc, ◌+◌, ◌-◌, ◌<◌, ◌≤◌, Bool, ◌||◌, List, [], ◌∷◌, ◌++◌, map, length, replicate, sym, refl, ap, ◌∙◌, subst, append_assoc, append-nil, add-one, arith}
 use Rattle.std.proofs.lemmas.List.{length-append, length-map, length-replicate, length_push, same_from_push}
 use Rattle.std.proofs.lemmas.Bool.{cond_both}
-use Rattle.std.specs.List.{AllByRecursion as All}
+use Rattle.std.specs.List.{AllByRecursion}
 use Rattle.format.specs.declared.command.PatternCommand.{PatternCommand}
 use Rattle.format.specs.declared.command.PatternCommand.TheVariants.{Sum, Leaf, Node, Product, Closure}
 use Rattle.pattern.specs.Expressions.{Expr, leaf, node, sum, product, closure, Parts, no_parts, ◌▸◌, count, commands, parts_commands}
@@ -129,10 +129,10 @@ module _ (cs init before : List PatternCommand) (e : Expr) where
 
 module _ (cs init : List PatternCommand) (room : ℕ) (ready : Ready cs room) where
   pub small_last : (last : PatternCommand) → cs ≡ init ++ last ∷ [] → Small last
-  small_last last is = (all_split Small init (last ∷ []) (subst (All Small) is ready.small)).1.0
+  small_last last is = (all_split Small init (last ∷ []) (subst (AllByRecursion Small) is ready.small)).1.0
 
-  small_front : (last : PatternCommand) → cs ≡ init ++ last ∷ [] → All Small init
-  small_front last is = (all_split Small init (last ∷ []) (subst (All Small) is ready.small)).0
+  small_front : (last : PatternCommand) → cs ≡ init ++ last ∷ [] → AllByRecursion Small init
+  small_front last is = (all_split Small init (last ∷ []) (subst (AllByRecursion Small) is ready.small)).0
 
   pub ready_node : (c rank points : ℕ) → cs ≡ init ++ Node c rank points ∷ [] → (rank ≤ room) × ReadyParts init rank room (room - rank) (room - rank)
   ready_node c rank points is =

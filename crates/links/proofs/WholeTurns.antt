@@ -1,13 +1,12 @@
 -- The links of a whole pattern: that its numbered commands are in range, that it has a number for each slot, and what
 -- the parts of the work come to. Assumes nothing.
-use Rattle.std.proofs.Common.{◌≡◌, ℕ, zero, suc, ◌+◌, ◌-◌, ◌<◌, ◌≤◌, cond, ltb, List, [], ◌∷◌, ◌++◌, length, take, drop, set, Ok, Err, sym, refl, ap, ◌∙◌, subst, append-nil, arith}
+use Rattle.std.proofs.Common.{◌≡◌, ℕ, suc, ◌+◌, ◌-◌, ◌<◌, ◌≤◌, ltb, List, [], ◌∷◌, ◌++◌, length, take, drop, set, Ok, Err, sym, refl, ap, ◌∙◌, subst, append-nil, arith}
 use native.Mathlib.Nat.{sub-zero}
 use borrow.Rule.Slice.PartMut.{put_mid, post_of}
 use Rattle.std.proofs.ByRecursion.{All-append, All-push}
-use Rattle.std.proofs.lemmas.List.{length-append, length-map, length-drop, length-take-le, drop_all}
+use Rattle.std.proofs.lemmas.List.{length-append, length-map, drop_all}
 use Rattle.std.proofs.lemmas.Bool.{cond-true, cond-false, lt-ltb, le-ltb}
-use Rattle.std.specs.List.{AllByRecursion as All}
-use Rattle.format.specs.declared.command.PatternCommand.{PatternCommand}
+use Rattle.std.specs.List.{AllByRecursion}
 use Rattle.format.specs.declared.command.PatternCommand.TheVariants.{Sum, Node, Product, Closure}
 use Rattle.format.specs.declared.entry.Entry.{Entry}
 use Rattle.pattern.specs.Expressions.{Expr, leaf, node, sum, product, closure, Parts, no_parts, ◌▸◌, count, commands, parts_commands, table}
@@ -19,8 +18,8 @@ use Rattle.links.specs.declared.part.Part.{Part}
 use Rattle.links.specs.Links.{linked, Linked, Unlinked}
 use Rattle.links.specs.Locality.{Operands}
 use Rattle.links.specs.Numbering.{numbered, named, rank_at}
-use Rattle.links.specs.Rows.{LinkRows, cut, root_row, root_rows, child_rows, parts_rows, link_rows}
-use Rattle.links.specs.Slots.{root, slots, slots_under, child_slots}
+use Rattle.links.specs.Rows.{LinkRows, root_rows, child_rows, parts_rows, link_rows}
+use Rattle.links.specs.Slots.{root, slots, slots_under}
 use Rattle.links.specs.Working.{Small, Worked}
 use Rattle.links.proofs.ExactRows.{rows_exact}
 use Rattle.links.proofs.FewSlots.{few_slots}
@@ -35,7 +34,7 @@ use Rattle.links.proofs.Rules.{Fine, FineParts}
 -- position numbers below 64
 module _ (rank : ℕ → ℕ) (n : ℕ) (few : n ≤ 64) where
   mutual
-    fine_small : (e : Expr) (lo hi : ℕ) → hi ≤ 64 → Fine rank n lo hi e → All Small (commands e)
+    fine_small : (e : Expr) (lo hi : ℕ) → hi ≤ 64 → Fine rank n lo hi e → AllByRecursion Small (commands e)
     fine_small (leaf c) lo hi h f = (omega (arith, f.0.0), tt)
     fine_small (node b points ps) lo hi h f = All-push Small (parts_commands ps) (Node b (count ps) points) (parts_small ps lo b (omega (arith, f.1)) f.0) (omega (arith, f.1))
     fine_small (sum a b) lo hi h f =
@@ -46,12 +45,12 @@ module _ (rank : ℕ → ℕ) (n : ℕ) (few : n ≤ 64) where
         (All-push Small (commands b) (Product c) (fine_small b f.0 hi h f.2) (omega (arith, f.3.0)))
     fine_small (closure c a) lo hi h f = All-push Small (commands a) (Closure c) (fine_small a lo hi h f.0) (omega (arith, f.1.0))
 
-    parts_small : (ps : Parts) (lo hi : ℕ) → hi ≤ 64 → FineParts rank n lo hi ps → All Small (parts_commands ps)
+    parts_small : (ps : Parts) (lo hi : ℕ) → hi ≤ 64 → FineParts rank n lo hi ps → AllByRecursion Small (parts_commands ps)
     parts_small no_parts lo hi h f = tt
     parts_small (ps ▸ e) lo hi h f =
         All-append Small (parts_commands ps) (commands e) (parts_small ps lo f.0 (omega (arith, fine_rises rank n e f.0 hi f.2)) f.1) (fine_small e f.0 hi h f.2)
 
-pub numbered_small : (e : Expr) → Limits 512 e → All Small (commands (numbered e))
+pub numbered_small : (e : Expr) → Limits 512 e → AllByRecursion Small (commands (numbered e))
 numbered_small e l = fine_small (rank_at (named e)) (length (named e)) l.few_positions (numbered e) 0 (length (named e)) l.few_positions (numbered_fine e l.operands)
 
 -- a number for each slot

@@ -1,7 +1,7 @@
 -- The worked cases: the links by computing the numbers and their exactness, the maps that lie in a pattern by showing
 -- how, and the one that does not by the steps of the closure, of which each would put 12 where only 11 can be.
 -- Assumes nothing.
-use Rattle.std.proofs.Common.{◌≡◌, ℕ, zero, suc, T, ltb, ◌⊎◌, refl, inl, inr, ⊎_elim, arith, lit<, lit≤}
+use Rattle.std.proofs.Common.{ℕ, zero, suc, T, ltb, refl, inl, inr, ⊎_elim, arith, lit<, lit≤}
 use Rattle.format.specs.Commands.{Code}
 use Rattle.pattern.specs.Expressions.{Expr, leaf, node, closure, no_parts, ◌▸◌}
 use Rattle.links.specs.Cases.{other_lane, pair, uneven, choices, different, unreached, WorkedCases}

@@ -1,6 +1,6 @@
 -- The commands of a numbered pattern, told from the commands of the pattern one after another: each gets the number
 -- of the position that it names, among those named before it. Assumes nothing.
-use Rattle.std.specs.Prelude.{◌≡◌, ℕ, List, [], ◌∷◌, ◌++◌, length, refl}
+use Rattle.std.specs.Prelude.{◌≡◌, List, [], ◌∷◌, ◌++◌, length, refl}
 use Rattle.format.specs.declared.command.PatternCommand.{PatternCommand}
 use Rattle.format.specs.declared.command.PatternCommand.TheVariants.{Sum, Leaf, Node, Product, Closure}
 use Rattle.pattern.specs.declared.position.Position.{Position}

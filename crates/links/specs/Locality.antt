@@ -1,8 +1,8 @@
 -- What the links of a numbered pattern say of its trees: a tree of positions is a numbered tree exactly where every
 -- position in it has as many children as its rank, its root is in the link of the root slot, and each child is in
 -- the link of its slot. Assumes nothing.
-use Rattle.std.specs.Prelude.{◌≡◌, ℕ, suc, ◌↔◌, List}
-use Rattle.std.specs.List.{AllByRecursion as All}
+use Rattle.std.specs.Prelude.{◌≡◌, ℕ, suc, ◌↔◌}
+use Rattle.std.specs.List.{AllByRecursion}
 use Rattle.format.specs.Commands.{PatternOperands}
 use Rattle.pattern.specs.Expressions.{Expr, commands}
 use Rattle.links.specs.Trees.{Trees, none, more, width}
@@ -22,7 +22,7 @@ Ranks rank (more ts x xs) = Ranks rank ts × (width xs ≡ rank x) × Ranks rank
 
 -- The patterns whose codes, ranks and points are in range.
 abbrev pub Operands : Expr → Type 0
-Operands e = All PatternOperands (commands e)
+Operands e = AllByRecursion PatternOperands (commands e)
 
 -- The tree with the root x looks like a numbered tree of the pattern from each of its positions.
 pub record Local (e : Expr) (x : ℕ) (xs : Trees ℕ) : Type 0 where

@@ -5,7 +5,7 @@ use Rattle.std.specs.Prelude.{◌≡◌, ℕ, suc, cond, List, [], ◌∷◌, le
 use Rattle.pattern.specs.declared.position.Position.{Position}
 use Rattle.pattern.specs.Expressions.{Expr, leaf, node, sum, product, closure, Parts, no_parts, ◌▸◌, commands, parts_commands}
 use Rattle.pattern.specs.Positions.{position, is_constant, positions, positions_after}
-use Rattle.links.specs.Trees.{Trees, none, more, relabel}
+use Rattle.links.specs.Trees.{Trees, relabel}
 use Rattle.links.specs.Language.{In}
 
 -- The number of a constant: that of the first position that is this constant. Where there is none yet it is the

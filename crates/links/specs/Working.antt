@@ -1,7 +1,7 @@
 -- What working the links of one part after another promises, on the commands of a numbered pattern that stand up to
 -- the end of the part, and on the numbers up to the end of its slots. Assumes nothing.
 use Rattle.std.specs.Prelude.{◌≡◌, ℕ, ◌+◌, ◌<◌, ◌≤◌, List, ◌++◌, length, take}
-use Rattle.std.specs.List.{AllByRecursion as All}
+use Rattle.std.specs.List.{AllByRecursion}
 use Rattle.format.specs.declared.command.PatternCommand.{PatternCommand}
 use Rattle.format.specs.declared.command.PatternCommand.TheVariants.{Sum, Leaf, Node, Product, Closure}
 use Rattle.pattern.specs.Expressions.{Expr, Parts, count, commands, parts_commands}
@@ -26,7 +26,7 @@ pub record Ready (cs : List PatternCommand) (room : ℕ) : Type 0 where
   pub before : List PatternCommand
   pub ends : Ends cs before part
   pub fits : length (child_rows part) ≤ room
-  pub small : All Small cs
+  pub small : AllByRecursion Small cs
 
 -- The links of the part are worked: it begins behind `before`, its slots end where the numbers end, and the numbers
 -- before its first slot are as they were.
@@ -43,7 +43,7 @@ pub record ReadyPair (cs : List PatternCommand) (room : ℕ) : Type 0 where
   pub before : List PatternCommand
   pub ends : Ends cs (before ++ commands first) second
   pub fits : length (child_rows first) + length (child_rows second) ≤ room
-  pub small : All Small cs
+  pub small : AllByRecursion Small cs
 
 pub record WorkedPair (before : List PatternCommand) (a b : Expr) (old new : List ℕ) (r : Part × Part) : Type 0 where
   pub start : r.0.start ≡ length before
@@ -62,7 +62,7 @@ pub record ReadyParts (cs : List PatternCommand) (number room end own : ℕ) : T
   pub fits : length (parts_rows parts) ≤ end
   pub behind : end ≤ own
   pub own_fit : own + number ≤ room
-  pub small : All Small cs
+  pub small : AllByRecursion Small cs
 
 -- The numbers up to the end of the parts' slots, those up to the node's own slots, these, and those behind them.
 pub record Laid (rows : List ℕ) (end own number : ℕ) : Type 0 where

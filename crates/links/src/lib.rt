@@ -1,4 +1,6 @@
 // What a pattern means, and its links.
+#![tactic(auto)]
+
 pub mod fault;
 pub mod link;
 mod number;

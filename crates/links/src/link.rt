@@ -1,13 +1,13 @@
 // The links of a pattern: worked from its table into lent memory, a number for each slot.
 ghost use Rattle.std.specs.Prelude.{◌≡◌, ◌<◌, ◌≤◌, length, take, MatchResult};
-ghost use Rattle.std.specs.List.{AllByRecursion as All};
+ghost use Rattle.std.specs.List.{AllByRecursion};
 ghost use Rattle.pattern.specs.Expressions.{Expr, table as table_of, commands as commands_of};
 ghost use Rattle.pattern.specs.Judging.{table_judged};
 ghost use Rattle.pattern.specs.Patterns.{Limits};
 ghost use Rattle.links.specs.declared.fault.LinkFault.TheVariants.{RowsMissing};
 ghost use Rattle.links.specs.Links.{linked, Linked, Unlinked};
 ghost use Rattle.links.specs.Locality.{Locality};
-ghost use Rattle.links.specs.Numbering.{numbered as NumberedOf, named};
+ghost use Rattle.links.specs.Numbering.{numbered as numbered_of, named};
 ghost use Rattle.links.specs.Readings.{Readable, Denotes};
 ghost use Rattle.links.specs.Rows.{link_rows};
 ghost use Rattle.links.specs.Slots.{slots};
@@ -75,7 +75,7 @@ fn work_table(
     rows: &mut [u64],
 ) -> Result<(), PatternFault>
     requires { (e : Expr) × Limits 512 e × (table.now ≡ table_of e) × (positions.now ≡ named e) × (length rows.old ≡ length (slots (named e))) × (length numbered.old ≡ 512) }
-    ensures { MatchResult result (λ _. (e : Expr) → Limits 512 e → table.now ≡ table_of e → rows.new ≡ link_rows (NumberedOf e)) (λ _. ⊥) }
+    ensures { MatchResult result (λ _. (e : Expr) → Limits 512 e → table.now ≡ table_of e → rows.new ≡ link_rows (numbered_of e)) (λ _. ⊥) }
 {
     number_table(table, positions, numbered)?;
     let count = table.len();
@@ -90,7 +90,7 @@ fn number_table(
     numbered: &mut [PatternCommand],
 ) -> Result<(), ByteFault>
     requires { (((e : Expr) × Limits 512 e × (table.now ≡ table_of e) × (positions.now ≡ named e))) × (length table.now ≤ length numbered.old) }
-    ensures { MatchResult result (λ _. (e : Expr) → table.now ≡ table_of e → positions.now ≡ named e → take (length table.now) numbered.new ≡ commands_of (NumberedOf e)) (λ _. ⊥) }
+    ensures { MatchResult result (λ _. (e : Expr) → table.now ≡ table_of e → positions.now ≡ named e → take (length table.now) numbered.new ≡ commands_of (numbered_of e)) (λ _. ⊥) }
 {
     let mut named = 0;
     for (i, entry) in table.iter().enumerate() {
@@ -104,7 +104,7 @@ fn number_table(
 
 // The links of a numbered pattern, one for each of its slots.
 fn work_rows(commands: &[PatternCommand], rows: &mut [u64])
-    requires { (((e : Expr) × (commands.now ≡ commands_of e) × (length rows.old ≡ length (link_rows e)))) × (All Small commands.now) }
+    requires { (((e : Expr) × (commands.now ≡ commands_of e) × (length rows.old ≡ length (link_rows e)))) × (AllByRecursion Small commands.now) }
     ensures { (e : Expr) → commands.now ≡ commands_of e → length rows.old ≡ length (link_rows e) → rows.new ≡ link_rows e }
 {
     let part = part_rows(commands, &mut rows[1..]);

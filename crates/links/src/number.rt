@@ -1,6 +1,6 @@
 // The commands of a numbered pattern, and how many slots it has.
 ghost use Rattle.std.specs.Prelude.{◌≡◌, ℕ, ◌≤◌, List, ◌++◌, map, length, MatchResult};
-ghost use Rattle.std.specs.List.{AllByRecursion as All};
+ghost use Rattle.std.specs.List.{AllByRecursion};
 ghost use Rattle.format.specs.declared.command.PatternCommand.{PatternCommand as Command};
 ghost use Rattle.format.specs.Commands.{PatternOperands};
 ghost use Rattle.format.specs.Entries.{entry_of};

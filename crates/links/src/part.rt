@@ -18,7 +18,7 @@ pub(crate) struct Part {
 }
 
 // Works the links of the part in which the commands end, at the end of the rows.
-#[cycle(pair_rows_part_rows_parts_rows)]
+#[cycle(part_links)]
 pub(crate) fn part_rows(commands: &[PatternCommand], rows: &mut [u64]) -> Part
     requires { Ready commands.now (length rows.old) }
     ensures within { (result.start < length commands.now) × (result.slot ≤ length rows.old) }
@@ -62,7 +62,7 @@ pub(crate) fn part_rows(commands: &[PatternCommand], rows: &mut [u64]) -> Part
 }
 
 // Two parts, the second one behind the first.
-#[cycle(pair_rows_part_rows_parts_rows)]
+#[cycle(part_links)]
 fn pair_rows(commands: &[PatternCommand], rows: &mut [u64]) -> (Part, Part)
     requires { ReadyPair commands.now (length rows.old) }
     ensures within { (result.0.start < length commands.now) × ((result.0.slot ≤ result.1.slot) × (result.1.slot ≤ length rows.old)) }
@@ -77,7 +77,7 @@ fn pair_rows(commands: &[PatternCommand], rows: &mut [u64]) -> (Part, Part)
 
 // The last parts of a node, as many as `number`: their slots end at `end`, and each of the node's own slots, which
 // begin at `own`, gets the roots of its part. Answers where the first of them begins, among the commands and slots.
-#[cycle(pair_rows_part_rows_parts_rows)]
+#[cycle(part_links)]
 fn parts_rows(
     commands: &[PatternCommand],
     number: usize,

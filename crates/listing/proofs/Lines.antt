@@ -3,7 +3,7 @@
 use Rattle.std.proofs.Common.{◌≡◌, ℕ, ◌+◌, ◌*◌, ◌<◌, ◌≤◌, List, [], ◌∷◌, ◌++◌, map, length, get_or, take, sym, refl, ap, ◌∙◌, append_assoc, append-nil, add-zero, add_assoc, arith}
 use Rattle.std.proofs.lemmas.List.{take_more, take_all, map_push, length_push, length-append, length-map, length-take-le, get_or-map}
 use Rattle.std.proofs.ByRecursion.{All-get_or}
-use Rattle.std.specs.List.{AllByRecursion as All}
+use Rattle.std.specs.List.{AllByRecursion}
 use Rattle.format.specs.declared.command.PatternCommand.{PatternCommand}
 use Rattle.format.specs.declared.command.PatternCommand.TheVariants.{Sum}
 use Rattle.format.specs.declared.entry.Entry.{Entry}
@@ -70,7 +70,7 @@ module _ {entries : List Entry} {i : ℕ} {before text : List ℕ} {at : ℕ} (s
       }
 
 -- an entry of no command
-pub no_lines : (entries : List Entry) (i : ℕ) (d : Entry) → i < length entries → ((c : PatternCommand) → PatternOperands c → get_or entries i d ≡ entry_of c → ⊥) → (cs : List PatternCommand) → All PatternOperands cs → entries ≡ map entry_of cs → ⊥
+pub no_lines : (entries : List Entry) (i : ℕ) (d : Entry) → i < length entries → ((c : PatternCommand) → PatternOperands c → get_or entries i d ≡ entry_of c → ⊥) → (cs : List PatternCommand) → AllByRecursion PatternOperands cs → entries ≡ map entry_of cs → ⊥
 no_lines entries i d h none cs all e =
     let long = ap length e ∙ length-map cs entry_of in
     let within : i < length cs = omega (arith, long) in

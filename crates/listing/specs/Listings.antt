@@ -1,6 +1,6 @@
 -- What the listing of a table promises. Assumes nothing.
 use Rattle.std.specs.Prelude.{◌≡◌, ℕ, List, ◌++◌, map, length, Err, Result, ◌≢◌}
-use Rattle.std.specs.List.{AllByRecursion as All}
+use Rattle.std.specs.List.{AllByRecursion}
 use Rattle.format.specs.declared.command.PatternCommand.{PatternCommand}
 use Rattle.format.specs.declared.entry.Entry.{Entry}
 use Rattle.format.specs.declared.fault.PatternFault.{PatternFault}
@@ -25,5 +25,5 @@ pub record Lines (entries : List Entry) (before after : List ℕ) (bytes : ℕ) 
 
 -- Memory was wanting, or some entry is that of no command.
 abbrev pub NoLines : Fault → List Entry → Type 0
-NoLines (Pattern fault) entries = (cs : List PatternCommand) → All PatternOperands cs → entries ≢ map entry_of cs
+NoLines (Pattern fault) entries = (cs : List PatternCommand) → AllByRecursion PatternOperands cs → entries ≢ map entry_of cs
 NoLines NoMemory entries = Unit {0}

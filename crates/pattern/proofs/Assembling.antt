@@ -1,7 +1,7 @@
 -- Commands that are in order and leave one part pending are those of an expression within the limits.
 -- By the stack of proofs/Stack.antt, along the commands. Assumes nothing.
 use Rattle.std.proofs.Common.{◌≡◌, ℕ, ◌+◌, ◌-◌, ◌≤◌, min, List, [], ◌∷◌, ◌++◌, length, sym, refl, ap, ◌∙◌, subst, append_assoc, append-nil, arith}
-use Rattle.std.specs.List.{AllByRecursion as All}
+use Rattle.std.specs.List.{AllByRecursion}
 use Rattle.format.specs.declared.command.PatternCommand.{PatternCommand}
 use Rattle.format.specs.Commands.{takes, PatternOperands}
 use Rattle.pattern.specs.Expressions.{Expr, Parts, no_parts, ◌▸◌, count, commands, parts_commands}
@@ -29,7 +29,7 @@ single no_parts h = absurd (omega (arith, h))
 single (no_parts ▸ e) h = (e, refl)
 single ((ps ▸ d) ▸ e) h = absurd (omega (arith, h))
 
-in_order_operands : (free : ℕ) (s : Standing) (cs : List PatternCommand) → InOrderFrom free s cs → All PatternOperands cs
+in_order_operands : (free : ℕ) (s : Standing) (cs : List PatternCommand) → InOrderFrom free s cs → AllByRecursion PatternOperands cs
 in_order_operands free s [] i = tt
 in_order_operands free s (c ∷ cs) i = (i.0, in_order_operands (free - 1) (after s c) cs i.4)
 
@@ -51,7 +51,7 @@ assemble room cs i one =
       e.0,
       is,
       record {
-        operands = subst (All PatternOperands) (sym is) (in_order_operands (min room 512) start cs i);
+        operands = subst (AllByRecursion PatternOperands) (sym is) (in_order_operands (min room 512) start cs i);
         few_commands = subst (λ l. length l ≤ 512) (sym is) (omega (arith, few));
         fits_table = subst (λ l. length l ≤ room) (sym is) (omega (arith, few));
         few_positions = subst (λ l. length (positions l) ≤ 64) (sym is) (subst (λ l. length l ≤ 64) (standing_positions start cs) named);

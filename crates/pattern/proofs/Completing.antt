@@ -4,7 +4,7 @@
 use Rattle.std.proofs.Common.{◌≡◌, ℕ, suc, ◌+◌, ◌-◌, ◌*◌, ◌<◌, ◌≤◌, min, eqb, ltb, List, [], ◌∷◌, ◌++◌, length, drop, Ok, sym, refl, ap, ◌∙◌, subst, append_assoc, append-nil, arith, le-ltb, eq-eqb, ne_eqb}
 use Rattle.std.proofs.lemmas.List.{drop_at, length-append}
 use Rattle.std.proofs.lemmas.Bool.{cond-true, cond-false}
-use Rattle.std.specs.List.{AllByRecursion as All}
+use Rattle.std.specs.List.{AllByRecursion}
 use Rattle.format.specs.declared.command.PatternCommand.{PatternCommand}
 use Rattle.format.specs.declared.command.PatternCommand.TheVariants.{Sum, Leaf, Node, Product, Closure}
 use Rattle.format.specs.Commands.{pattern_bytes, takes, PatternOperands}
@@ -76,7 +76,7 @@ admits free at s c t p f =
     ∙ cond-false (eqb free 0) _ _ (ne_eqb free 0 (λ e. omega (arith, e)))
 
 module _ (file : List ℕ) (short : length file ≤ 65536) where
-  complete : (cs : List PatternCommand) (free : ℕ) (before : List PatternCommand) (at : ℕ) → file ≡ spell before ++ spell cs → length (spell before) ≡ at → All PatternOperands cs → Fed (standing before).pending cs 1 → length cs ≤ free → length (standing_from (standing before) cs).positions ≤ 64 → judged_from free file before at ≡ Ok (before ++ cs)
+  complete : (cs : List PatternCommand) (free : ℕ) (before : List PatternCommand) (at : ℕ) → file ≡ spell before ++ spell cs → length (spell before) ≡ at → AllByRecursion PatternOperands cs → Fed (standing before).pending cs 1 → length cs ≤ free → length (standing_from (standing before) cs).positions ≤ 64 → judged_from free file before at ≡ Ok (before ++ cs)
   complete [] free before at whole place ops f few named =
       judged_end free file before at (omega (arith, ap length (whole ∙ append-nil (spell before)), place))
       ∙ cond-true (eqb (standing before).pending 1) _ _ (eq-eqb (standing before).pending 1 f)

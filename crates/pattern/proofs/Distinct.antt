@@ -1,6 +1,6 @@
 -- Two different expressions never have the same bytes. A command is known by its bytes, whatever lies behind
 -- them; so commands are known by theirs, and an expression by its commands. Assumes nothing.
-use Rattle.std.proofs.Common.{◌≡◌, ℕ, ◌+◌, List, [], ◌∷◌, ◌++◌, length, sym, refl, ap, ◌∙◌, subst, div-add-mod', arith}
+use Rattle.std.proofs.Common.{◌≡◌, ℕ, List, [], ◌∷◌, ◌++◌, length, sym, refl, ap, ◌∙◌, subst, div-add-mod', arith}
 use Rattle.std.proofs.lemmas.List.{append_cancel_left, length-append}
 use Rattle.format.specs.declared.command.PatternCommand.{PatternCommand}
 use Rattle.format.specs.declared.command.PatternCommand.TheVariants.{Sum, Leaf, Node, Product, Closure}

@@ -3,7 +3,7 @@
 use Rattle.std.proofs.Common.{◌≡◌, ℕ, ◌+◌, ◌-◌, ◌≤◌, eqb, List, [], ◌∷◌, ◌++◌, map, length, Ok, Err, sym, refl, ap, ◌∙◌, subst, append_assoc, append-nil, arith, eq-eqb}
 use Rattle.std.proofs.lemmas.List.{length_push}
 use Rattle.std.proofs.lemmas.Bool.{cond-true}
-use Rattle.std.specs.List.{AllByRecursion as All}
+use Rattle.std.specs.List.{AllByRecursion}
 use Rattle.format.specs.declared.command.PatternCommand.{PatternCommand}
 use Rattle.format.specs.declared.command.PatternCommand.TheVariants.{Sum, Leaf, Node, Product, Closure}
 use Rattle.format.specs.declared.entry.Entry.{Entry}
@@ -29,7 +29,7 @@ entry_read at (Node code rank points) h =
 entry_read at (Product code) h = ap (λ r. then r (λ n. Ok (Product n))) (code_taken at code h)
 entry_read at (Closure code) h = ap (λ r. then r (λ n. Ok (Closure n))) (code_taken at code h)
 
-complete : (cs before : List PatternCommand) → All PatternOperands cs → Fed (standing before).pending cs 1 → length before + length cs ≤ 512 → length (standing_from (standing before) cs).positions ≤ 64 → table_from before (map entry_of cs) ≡ Ok (before ++ cs)
+complete : (cs before : List PatternCommand) → AllByRecursion PatternOperands cs → Fed (standing before).pending cs 1 → length before + length cs ≤ 512 → length (standing_from (standing before) cs).positions ≤ 64 → table_from before (map entry_of cs) ≡ Ok (before ++ cs)
 complete [] before ops f few named =
     cond-true (eqb (standing before).pending 1) _ _ (eq-eqb (standing before).pending 1 f) ∙ ap Ok (sym (append-nil before))
 complete (c ∷ cs) before ops f few named =

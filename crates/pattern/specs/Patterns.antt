@@ -1,7 +1,7 @@
 -- What reading a pattern file promises, in terms of expressions: which files are accepted, what the table then
 -- holds, and which fault a refused file has. Assumes nothing.
-use Rattle.std.specs.Prelude.{◌≡◌, ℕ, ◌+◌, ◌-◌, ◌<◌, ◌≤◌, min, ◌⊎◌, List, [], ◌∷◌, ◌++◌, map, length, drop, Ok, Err, Result, ◌≢◌}
-use Rattle.std.specs.List.{AllByRecursion as All}
+use Rattle.std.specs.Prelude.{◌≡◌, ℕ, ◌-◌, ◌<◌, ◌≤◌, min, ◌⊎◌, List, [], ◌∷◌, ◌++◌, map, length, drop, Ok, Err, Result, ◌≢◌}
+use Rattle.std.specs.List.{AllByRecursion}
 use Rattle.format.specs.declared.command.PatternCommand.{PatternCommand}
 use Rattle.format.specs.declared.entry.Entry.{Entry}
 use Rattle.format.specs.declared.fault.ByteFault.TheVariants.{FileTooLong}
@@ -16,7 +16,7 @@ use Rattle.pattern.specs.Refusals.{First, refusals}
 
 -- The limits of a pattern: its codes, ranks and points, 512 commands, 64 positions, and the caller's table.
 pub record Limits (room : ℕ) (e : Expr) : Type 0 where
-  pub operands : All PatternOperands (commands e)
+  pub operands : AllByRecursion PatternOperands (commands e)
   pub few_commands : length (commands e) ≤ 512
   pub fits_table : length (commands e) ≤ room
   pub few_positions : length (positions (commands e)) ≤ 64

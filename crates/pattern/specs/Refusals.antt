@@ -1,6 +1,6 @@
 -- The refusals that may fit a command of a pattern file, in their order: the table of which the first that fits is
 -- the answer. Assumes nothing.
-use Rattle.std.specs.Prelude.{◌≡◌, ℕ, ◌+◌, ◌*◌, Bool, true, false, cond, not, ◌||◌, ◌⊎◌, List, [], ◌∷◌, length, ◌==◌, nat_lt, slice_index, slice_index_or}
+use Rattle.std.specs.Prelude.{◌≡◌, ℕ, ◌+◌, ◌*◌, Bool, true, false, cond, not, ◌||◌, ◌⊎◌, List, [], ◌∷◌, length, ◌==◌, nat_lt, slice_index}
 use Rattle.format.specs.declared.command.PatternCommand.{PatternCommand}
 use Rattle.format.specs.declared.command.PatternCommand.TheVariants.{Sum, Leaf, Node, Product, Closure}
 use Rattle.format.specs.declared.fault.ByteFault.TheVariants.{NoCommand, OperandsMissing, CodeZero, RankOutside}
@@ -16,7 +16,7 @@ letter b = b == 76 || (b == 78 || (b == 43 || (b == 46 || b == 42)))
 -- The command that the bytes spell where they spell one; bytes that are missing count as 0.
 abbrev pub spelled : List ℕ → PatternCommand
 spelled bs =
-    let code = slice_index bs 1 * 256 + slice_index_or bs 2 0 in
+    let code = slice_index bs 1 * 256 + slice_index bs 2 in
     cond (slice_index bs 0 == 76) (Leaf code)
     (cond (slice_index bs 0 == 78) (Node code (slice_index bs 3) (slice_index bs 4))
     (cond (slice_index bs 0 == 46) (Product code) (cond (slice_index bs 0 == 42) (Closure code) Sum)))

@@ -27,13 +27,13 @@ fn entry(kind: u8, code: u16, rank: u8, points: u8) -> Entry {
 }
 
 // The file is refused with this number at this place, for a table of 512 entries.
-fn refused(rt: &impl Abort, file: &[u8], number: u8, place: usize) -> Result<(), Fail> {
+fn refused(rt: &impl Abort, file: &[u8], number: u8, place: usize, why: &str) -> Result<(), Fail> {
     let mut table = [FILLER; 512];
     match read_pattern(file, &mut table) {
         Ok(_) => Err(Fail::new("the file was accepted")),
         Err(fault) => {
-            assert_eq!(rt; fault.number(), number);
-            assert_eq!(rt; fault.place(), place);
+            assert_eq!(rt; fault.number(), number, "{why}");
+            assert_eq!(rt; fault.place(), place, "{why}");
             Ok(())
         }
     }
@@ -72,24 +72,36 @@ fn table_one_entry_short(rt: HostRuntime) {
 
 #[test]
 fn each_refusal(rt: HostRuntime) -> Result<(), Fail> {
-    refused(&rt, b"Z", 1, 0)?;
-    refused(&rt, b"K\x00\x01\x01", 1, 0).note("a map's command")?;
-    refused(&rt, b"L\x00", 2, 0)?;
-    refused(&rt, b"L\x00\x00", 3, 0)?;
-    refused(&rt, b"L\x00\x01N\x00\x01\x00\x00", 4, 3)?;
-    refused(&rt, b"L\x00\x01N\x00\x01\x05\x00", 4, 3)?;
-    refused(&rt, b"L\x00\x01+", 5, 3)?;
-    refused(&rt, b"", 6, 0)?;
-    refused(&rt, b"L\x00\x01L\x00\x01", 6, 6)
+    refused(&rt, b"Z", 1, 0, "no command")?;
+    refused(&rt, b"K\x00\x01\x01", 1, 0, "a map's command")?;
+    refused(&rt, b"L\x00", 2, 0, "operands are missing")?;
+    refused(&rt, b"L\x00\x00", 3, 0, "a code is 0")?;
+    refused(
+        &rt,
+        b"L\x00\x01N\x00\x01\x00\x00",
+        4,
+        3,
+        "a rank outside 1 to 4",
+    )?;
+    refused(
+        &rt,
+        b"L\x00\x01N\x00\x01\x05\x00",
+        4,
+        3,
+        "a rank outside 1 to 4",
+    )?;
+    refused(&rt, b"L\x00\x01+", 5, 3, "parts are missing")?;
+    refused(&rt, b"", 6, 0, "other than one part")?;
+    refused(&rt, b"L\x00\x01L\x00\x01", 6, 6, "other than one part")
 }
 
 #[test]
 fn the_first_refusal_wins(rt: HostRuntime) -> Result<(), Fail> {
-    refused(&rt, b"N\x00\x00\x09", 2, 0).note("2 before 3 and 4")?;
-    refused(&rt, b"N\x00\x00\x09\x00", 3, 0).note("3 before 4 and 5")?;
-    refused(&rt, b"N\x00\x01\x09\x00", 4, 0).note("4 before 5")?;
-    refused(&rt, b"L\x00\x01+Z", 5, 3).note("the earlier command first")?;
-    refused(&rt, b"L\x00\x01L\x00\x01Z", 1, 6).note("1 before 6")
+    refused(&rt, b"N\x00\x00\x09", 2, 0, "2 before 3 and 4")?;
+    refused(&rt, b"N\x00\x00\x09\x00", 3, 0, "3 before 4 and 5")?;
+    refused(&rt, b"N\x00\x01\x09\x00", 4, 0, "4 before 5")?;
+    refused(&rt, b"L\x00\x01+Z", 5, 3, "the earlier command first")?;
+    refused(&rt, b"L\x00\x01L\x00\x01Z", 1, 6, "1 before 6")
 }
 
 #[test]
@@ -97,13 +109,13 @@ fn truncated_at_every_byte(rt: HostRuntime) -> Result<(), Fail> {
     for n in 0..19 {
         let cut = &SAMPLE[0..n];
         match n {
-            0 => refused(&rt, cut, 6, 0)?,
-            1..=2 => refused(&rt, cut, 2, 0)?,
-            4..=7 => refused(&rt, cut, 2, 3)?,
-            9..=10 => refused(&rt, cut, 2, 8)?,
-            11 => refused(&rt, cut, 6, 11)?,
-            12..=15 => refused(&rt, cut, 2, 11)?,
-            17..=18 => refused(&rt, cut, 2, 16)?,
+            0 => refused(&rt, cut, 6, 0, "other than one part")?,
+            1..=2 => refused(&rt, cut, 2, 0, "operands are missing")?,
+            4..=7 => refused(&rt, cut, 2, 3, "operands are missing")?,
+            9..=10 => refused(&rt, cut, 2, 8, "operands are missing")?,
+            11 => refused(&rt, cut, 6, 11, "other than one part")?,
+            12..=15 => refused(&rt, cut, 2, 11, "operands are missing")?,
+            17..=18 => refused(&rt, cut, 2, 16, "operands are missing")?,
             _ => accepted(&rt, cut),
         }
     }
@@ -113,7 +125,7 @@ fn truncated_at_every_byte(rt: HostRuntime) -> Result<(), Fail> {
 #[test]
 fn long_files(rt: HostRuntime) -> Result<(), Fail> {
     let longest = vec![in rt.alloc(); b'Z'; 65536]?;
-    refused(&rt, longest.as_slice(), 1, 0)?;
+    refused(&rt, longest.as_slice(), 1, 0, "no command")?;
     let longer = vec![in rt.alloc(); b'Z'; 65537]?;
-    refused(&rt, longer.as_slice(), 17, 65536).note("17 before 1")
+    refused(&rt, longer.as_slice(), 17, 65536, "17 before 1")
 }

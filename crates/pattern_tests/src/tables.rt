@@ -38,12 +38,18 @@ fn entry(kind: u8, code: u16, rank: u8, points: u8) -> Entry {
 }
 
 // The table is refused with this number at this place.
-fn refused(rt: &impl Abort, table: &[Entry], number: u8, place: usize) -> Result<(), Fail> {
+fn refused(
+    rt: &impl Abort,
+    table: &[Entry],
+    number: u8,
+    place: usize,
+    why: &str,
+) -> Result<(), Fail> {
     match judge_table(table) {
         Ok(_) => Err(Fail::new("the table was accepted")),
         Err(fault) => {
-            assert_eq!(rt; fault.number(), number);
-            assert_eq!(rt; fault.place(), place);
+            assert_eq!(rt; fault.number(), number, "{why}");
+            assert_eq!(rt; fault.place(), place, "{why}");
             Ok(())
         }
     }
@@ -105,9 +111,9 @@ fn a_constant_and_a_node_of_one_code(rt: HostRuntime) -> Result<(), Fail> {
 
 #[test]
 fn tables_that_no_pattern_gives(rt: HostRuntime) -> Result<(), Fail> {
-    refused(&rt, &[], 6, 0)?;
-    refused(&rt, &[LEAF, LEAF], 6, 2).note("6 at the count of entries")?;
-    refused(&rt, &[LEAF, SUM], 5, 1).note("at the entry's number")?;
-    refused(&rt, &[LEAF, entry(b'+', 0, 0, 9)], 1, 1).note("1 before 5")?;
-    refused(&rt, &[LEAF; 513], 8, 512)
+    refused(&rt, &[], 6, 0, "other than one part")?;
+    refused(&rt, &[LEAF, LEAF], 6, 2, "6 at the count of entries")?;
+    refused(&rt, &[LEAF, SUM], 5, 1, "at the entry's number")?;
+    refused(&rt, &[LEAF, entry(b'+', 0, 0, 9)], 1, 1, "1 before 5")?;
+    refused(&rt, &[LEAF; 513], 8, 512, "the 513th entry")
 }

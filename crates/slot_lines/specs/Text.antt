@@ -1,5 +1,5 @@
--- The text by which the slots of a pattern and their links are listed: a line for each slot. docs/INSPECT.md shows the
--- other lines of a listing. Assumes nothing.
+-- The text by which the slots of a pattern and their links are listed, a line for each slot. docs/INSPECT.md shows it.
+-- Assumes nothing.
 use Rattle.std.specs.Prelude.{ℕ, ◌+◌, Bool, true, false, cond, List, [], ◌∷◌, ◌++◌, codes, decimal, ◌==◌, slice_index_or}
 use Rattle.pattern.specs.declared.position.Position.{Position}
 use Rattle.pattern.specs.Positions.{position}

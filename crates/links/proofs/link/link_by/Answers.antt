@@ -1,4 +1,4 @@
-use Rattle.std.proofs.Common.{◌≡◌, length, take, Err, sym, refl, ap, ◌∙◌, subst, arith, rules}
+use Rattle.std.proofs.Common.{length, take, Err, sym, refl, ap, ◌∙◌, subst}
 use native.Mathlib.Nat.{sub-zero}
 use Rattle.std.proofs.lemmas.List.{length-take-le}
 use Rattle.std.proofs.lemmas.Result.{err_from_is_err_and}
@@ -9,42 +9,42 @@ use Rattle.links.specs.Slots.{slots}
 use Rattle.links.proofs.WholeTurns.{rows_missing, rows_there, unlinked, whole_linked}
 use Rattle.links.proofs.link.link_by.Goals as goal
 
-pub returns-in-err-check-room : goal.returns-in-err-check-room
-returns-in-err-check-room c =
+pub returns-in_err-check_room : goal.returns-in_err-check_room
+returns-in_err-check_room c =
     let entries = c.args.table.now in
     let rows = c.args.rows.now in
-    let s = stands c.in-ok-judge.judge in
-    let t = c.in-ok-judge.ensures.law in
-    let is = c.slot-count-count.ensures ∙ ap (λ ps. length (slots ps)) c.positions-positions.ensures in
-    let short = c.in-err-check-room.ensures in
-    let fault = err_from_is_err_and c.from-residual-in-err-check-room.result c.from-residual-in-err-check-room.ensures.1 in
+    let s = stands c.in_ok-judge.judge in
+    let t = c.in_ok-judge.ensures.law in
+    let is = c.slot_count-count.ensures ∙ ap (λ ps. length (slots ps)) c.positions-positions.ensures in
+    let short = c.in_err-check_room.ensures in
+    let fault = err_from_is_err_and c.from_residual-in_err-check_room.result c.from_residual-in_err-check_room.ensures.1 in
     record {
-      answer = fault.1 ∙ ap Err (fault.2 ∙ short.1) ∙ sym (rows_missing entries s t (length rows) c.slot-count-count.result is short.0);
+      answer = fault.1 ∙ ap Err (fault.2 ∙ short.1) ∙ sym (rows_missing entries s t (length rows) c.slot_count-count.result is short.0);
       law =
-          at_exit _ _ c.from-residual-in-err-check-room.result _ c.from-residual-in-err-check-room.ensures.1
-          (subst (Unlinked entries rows rows) (sym short.1) (unlinked entries s t (length rows) rows c.slot-count-count.result refl is short.0));
+          at_exit _ _ c.from_residual-in_err-check_room.result _ c.from_residual-in_err-check_room.ensures.1
+          (subst (Unlinked entries rows rows) (sym short.1) (unlinked entries s t (length rows) rows c.slot_count-count.result refl is short.0));
     }
 
-pub work-table-requires : goal.work-table-requires
-work-table-requires c =
-    let t = c.in-ok-judge.ensures.law in
+pub work_table-requires : goal.work_table-requires
+work_table-requires c =
+    let t = c.in_ok-judge.ensures.law in
     let names = c.positions-positions.ensures ∙ t.named in (
       t.pattern,
       t.limits,
       t.holds,
       names,
-      ap (λ n. length (take n c.args.rows.now)) (sub-zero c.slot-count-count.result)
-          ∙ length-take-le c.slot-count-count.result c.args.rows.now c.in-ok-check-room.ensures
-          ∙ c.slot-count-count.ensures ∙ ap (λ ps. length (slots ps)) names,
+      ap (λ n. length (take n c.args.rows.now)) (sub-zero c.slot_count-count.result)
+          ∙ length-take-le c.slot_count-count.result c.args.rows.now c.in_ok-check_room.ensures
+          ∙ c.slot_count-count.ensures ∙ ap (λ ps. length (slots ps)) names,
       c.requires,
     )
 
 pub returns : goal.returns
 returns c =
-    let s = stands c.in-ok-judge.judge in
-    let t = c.in-ok-judge.ensures.law in
-    let is = c.slot-count-count.ensures ∙ ap (λ ps. length (slots ps)) c.positions-positions.ensures in
+    let s = stands c.in_ok-judge.judge in
+    let t = c.in_ok-judge.ensures.law in
+    let is = c.slot_count-count.ensures ∙ ap (λ ps. length (slots ps)) c.positions-positions.ensures in
     record {
-      answer = sym (rows_there c.args.table.now s t (length c.args.rows.now) c.slot-count-count.result is c.in-ok-check-room.ensures);
-      law = whole_linked c.args.table.now s t (length c.args.rows.now) c.args.rows.now c.work-table.new.rows c.slot-count-count.result is c.in-ok-work-table.ensures;
+      answer = sym (rows_there c.args.table.now s t (length c.args.rows.now) c.slot_count-count.result is c.in_ok-check_room.ensures);
+      law = whole_linked c.args.table.now s t (length c.args.rows.now) c.args.rows.now c.work_table.new.rows c.slot_count-count.result is c.in_ok-work_table.ensures;
     }

@@ -5,4 +5,4 @@ use Rattle.links.proofs.link.link_rows.Goals as goal
 
 pub returns : goal.returns
 returns c =
-    record { answer = c.link-by.ensures.answer; law = c.link-by.ensures.law; locality = locality; readable = readable; denotes = inhabited }
+    record { answer = c.link_by.ensures.answer; law = c.link_by.ensures.law; locality = locality; readable = readable; denotes = inhabited }

@@ -1,4 +1,4 @@
-use Rattle.std.proofs.Common.{◌+◌, sym, ap, ◌∙◌, add-zero, arith}
+use Rattle.std.proofs.Common.{◌∙◌, arith}
 use Rattle.links.proofs.NumberLoops.{found, ranked, another, not_found, number_within}
 use Rattle.links.proofs.number.find_constant.Goals as goal
 use Rattle.links.proofs.number.find_constant.Goals.{else-p-eq0-via-then-p-eq0+else-p-code, else-p-eq0-via-else-p-eq0}

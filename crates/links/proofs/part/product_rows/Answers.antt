@@ -1,4 +1,4 @@
-use Rattle.std.proofs.Common.{◌≡◌, ℕ, ◌+◌, ◌-◌, ◌||◌, List, [], ◌++◌, map, length, sym, ap, ◌∙◌, append_assoc, append-nil, arith, rules}
+use Rattle.std.proofs.Common.{◌≡◌, ℕ, ◌-◌, ◌||◌, List, [], ◌++◌, map, length, sym, ap, ◌∙◌, append_assoc, append-nil, arith, rules}
 use borrow.Rule.Slice.PartMut.{put_mid}
 use Rattle.std.proofs.lemmas.List.{length-append, length-map}
 use Rattle.links.specs.Rows.{holds, any_holds, cut, kept}
@@ -16,10 +16,10 @@ returns c =
           let f = cut c.args.constant c.args.second.roots in
           let broad : length middle ≡ b - a = omega (arith, long, wide) in
           let part = middle_is front middle back rows is a (b - a) long broad in
-          let cuts : c.cut-rows.new.rows ≡ map f middle = c.cut-rows.ensures ∙ ap (map f) part in
-          let between : List ℕ = put_mid a (b - a) rows c.cut-rows.new.rows in
+          let cuts : c.cut_rows.new.rows ≡ map f middle = c.cut_rows.ensures ∙ ap (map f) part in
+          let between : List ℕ = put_mid a (b - a) rows c.cut_rows.new.rows in
           let now : between ≡ (front ++ map f middle) ++ (back ++ []) =
-          written front middle back rows is a (b - a) long broad c.cut-rows.new.rows
+          written front middle back rows is a (b - a) long broad c.cut_rows.new.rows
           ∙ ap (λ l. front ++ (l ++ back)) cuts
           ∙ sym (append_assoc front (map f middle) back)
           ∙ ap (λ l. (front ++ map f middle) ++ l) (sym (append-nil back)) in
@@ -28,9 +28,9 @@ returns c =
           omega (arith, ap length now, length-append (front ++ map f middle) (back ++ []), ap length (append-nil back), reach) in
           let reached : c.reaches-reached.result ≡ (holds c.args.constant c.args.first.roots || any_holds c.args.constant middle) =
           c.reaches-reached.ensures ∙ ap (λ l. holds c.args.constant c.args.first.roots || any_holds c.args.constant l) part in
-          written (front ++ map f middle) back [] between now b _ reach rest c.keep-rows.new.rows
+          written (front ++ map f middle) back [] between now b _ reach rest c.keep_rows.new.rows
           ∙ ap (λ l. (front ++ map f middle) ++ l)
-          (append-nil c.keep-rows.new.rows ∙ c.keep-rows.ensures
+          (append-nil c.keep_rows.new.rows ∙ c.keep_rows.ensures
           ∙ ap (kept c.reaches-reached.result) (middle_is (front ++ map f middle) back [] between now b _ reach rest)
           ∙ ap (λ r. kept r back) reached)
           ∙ append_assoc front (map f middle) _;

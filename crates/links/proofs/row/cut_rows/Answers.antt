@@ -4,9 +4,9 @@ use Rattle.links.proofs.row.cut_rows.Goals as goal
 
 pub loop-row-preserved : goal.loop-row-preserved
 loop-row-preserved c =
-    mapped_more (cut c.args.constant c.args.instead) c.args.rows.now c.loop-row.rows c.loop-row.row-index 0 c.cut-row.result c.loop-row-test.true
+    mapped_more (cut c.args.constant c.args.instead) c.args.rows.now c.loop-row.rows c.loop-row.row-index 0 c.cut_row.result c.loop-row-test.true
     c.loop-row.invariant
-    c.cut-row.ensures
+    c.cut_row.ensures
 
 pub returns : goal.returns
 returns c =

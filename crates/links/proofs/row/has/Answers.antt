@@ -1,4 +1,4 @@
-use Rattle.std.proofs.Common.{◌^◌, ◌<◌, sym, arith, rules}
+use Rattle.std.proofs.Common.{◌^◌, ◌<◌, sym, rules}
 use Rattle.links.proofs.Bits.{holds_past}
 use Rattle.links.proofs.row.has.Goals as goal
 

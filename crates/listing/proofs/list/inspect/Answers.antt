@@ -13,4 +13,4 @@ returns-in-Ok c =
 pub returns-in-Pattern : goal.returns-in-Pattern
 returns-in-Pattern c =
     let h = subst (λ f. Fails f (judged 512 c.args.file.now)) c.in-Pattern.is c.in-Err.ensures in
-    said_of c.fault-lines.result told _ (judged 512 c.args.file.now) (sym h) c.fault-lines.ensures
+    said_of c.fault_lines.result told _ (judged 512 c.args.file.now) (sym h) c.fault_lines.ensures

@@ -9,14 +9,14 @@ use Rattle.listing.specs.Text.{listing}
 use Rattle.listing.proofs.Wholes.{same_judged, judged_fault}
 use Rattle.listing.proofs.list.list_by.Goals as goal
 
-pub returns-in-err-count : goal.returns-in-err-count
-returns-in-err-count c =
-    at_exit _ _ c.from-residual.result _ c.from-residual.ensures.1
-    (judged_fault (judged 512 c.args.file.now) _ (c.in-err-count.ensures.answer ∙ ap (λ n. counted (judged n c.args.file.now)) c.requires))
+pub returns-in_err-count : goal.returns-in_err-count
+returns-in_err-count c =
+    at_exit _ _ c.from_residual.result _ c.from_residual.ensures.1
+    (judged_fault (judged 512 c.args.file.now) _ (c.in_err-count.ensures.answer ∙ ap (λ n. counted (judged n c.args.file.now)) c.requires))
 
 pub returns : goal.returns
 returns c =
     subst
     (λ (j : Result (List PatternCommand) PatternFault). MatchResult c.list.result (λ s. (cs : List PatternCommand) × (j ≡ Ok cs) × (string_bytes s ≡ listing cs)) (λ f. Fails f j))
-    (same_judged c.args.file.now c.args.table.now c.read-pattern.new.table c.in-ok-count.count c.requires c.in-ok-count.ensures.law)
+    (same_judged c.args.file.now c.args.table.now c.read_pattern.new.table c.in_ok-count.count c.requires c.in_ok-count.ensures.law)
     c.list.ensures

@@ -7,19 +7,19 @@ use Rattle.listing.proofs.list.push_commands.Goals as goal
 pub loop-i-init : goal.loop-i-init
 loop-i-init c = none_yet c.args.table.now (string_bytes c.args.out.now)
 
-pub returns-in-err-command : goal.returns-in-err-command
-returns-in-err-command c =
-    at_exit _ _ c.from-residual.result _ c.from-residual.ensures.1
-    (no_lines c.args.table.now c.loop-i.i _ c.loop-i-test.true c.in-err-command.ensures.stands)
+pub returns-in_err-command : goal.returns-in_err-command
+returns-in_err-command c =
+    at_exit _ _ c.from_residual.result _ c.from_residual.ensures.1
+    (no_lines c.args.table.now c.loop-i.i _ c.loop-i-test.true c.in_err-command.ensures.stands)
 
-pub overflow-add-at : goal.overflow-add-at
-overflow-add-at c = record { fits = omega (arith, short c.loop-i.invariant, c.width-at.ensures, bytes_few c.in-ok-command.command) }
+pub overflow_add-at : goal.overflow_add-at
+overflow_add-at c = record { fits = omega (arith, short c.loop-i.invariant, c.width-at.ensures, bytes_few c.in_ok-command.command) }
 
 pub loop-i-preserved : goal.loop-i-preserved
 loop-i-preserved c =
-    one_more c.loop-i.invariant _ c.in-ok-command.command _ (string_bytes c.push-str.new.self) c.width-at.result c.loop-i-test.true c.in-ok-command.ensures.stands.1
-    c.in-ok-line.ensures
-    (c.in-ok-push-str.ensures.bytes ∙ ap (λ l. string_bytes c.loop-i.out ++ l) c.as-str.ensures.value)
+    one_more c.loop-i.invariant _ c.in_ok-command.command _ (string_bytes c.push_str.new.self) c.width-at.result c.loop-i-test.true c.in_ok-command.ensures.stands.1
+    c.in_ok-line.ensures
+    (c.in_ok-push_str.ensures.bytes ∙ ap (λ l. string_bytes c.loop-i.out ++ l) c.as_str.ensures.value)
     c.width-at.ensures
 
 pub returns : goal.returns

@@ -9,9 +9,9 @@ loop-i-init c = sym (append-nil (string_bytes c.args.out.now))
 
 pub loop-i-preserved : goal.loop-i-preserved
 loop-i-preserved c =
-    position_more c.args.positions.now c.loop-i.i _ (string_bytes c.args.out.now) (string_bytes c.loop-i.out) _ (string_bytes c.push-str.new.self) c.loop-i-test.true c.loop-i.invariant
-    c.in-ok-line.ensures
-    (c.in-ok-push-str.ensures.bytes ∙ ap (λ l. string_bytes c.loop-i.out ++ l) c.as-str.ensures.value)
+    position_more c.args.positions.now c.loop-i.i _ (string_bytes c.args.out.now) (string_bytes c.loop-i.out) _ (string_bytes c.push_str.new.self) c.loop-i-test.true c.loop-i.invariant
+    c.in_ok-line.ensures
+    (c.in_ok-push_str.ensures.bytes ∙ ap (λ l. string_bytes c.loop-i.out ++ l) c.as_str.ensures.value)
 
 pub returns : goal.returns
 returns c =

@@ -4,7 +4,7 @@ use Rattle.listing.proofs.Texts.{said_of}
 use Rattle.listing.proofs.words.byte_sentence.Goals as goal
 
 pub returns-in-FileTooLong : goal.returns-in-FileTooLong
-returns-in-FileTooLong c = said_of c.from-str.result byte_sentence _ c.args.fault (sym c.in-FileTooLong.is) c.from-str.ensures.ok
+returns-in-FileTooLong c = said_of c.from_str.result byte_sentence _ c.args.fault (sym c.in-FileTooLong.is) c.from_str.ensures.ok
 
 pub returns-in-NoCommand : goal.returns-in-NoCommand
 returns-in-NoCommand c = said_of c.format.result byte_sentence _ c.args.fault (sym c.in-NoCommand.is) c.format.ensures.ok

@@ -4,10 +4,10 @@ use Rattle.pattern.proofs.read.read_pattern.Goals as goal
 
 pub returns : goal.returns
 returns c =
-    let told = c.read-by.ensures in
+    let told = c.read_by.ensures in
     record {
       answer = told.answer;
       memory = told.memory;
-      law = law c.args.file.now c.args.table.now c.read-by.new.table c.read-by.result (λ i. (c.type-inv.file i).fits) told.answer told.memory;
+      law = law c.args.file.now c.args.table.now c.read_by.new.table c.read_by.result (λ i. (c.type_inv.file i).fits) told.answer told.memory;
       one_meaning = one_meaning;
     }

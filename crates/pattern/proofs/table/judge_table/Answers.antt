@@ -9,29 +9,29 @@ loop-i-init c = none_yet c.args.table.now c.new-judge.result c.new-judge.ensures
 
 pub loop-i-preserved : goal.loop-i-preserved
 loop-i-preserved c =
-    let k = c.in-ok-admit-entry.ensures in
-    one_more c.loop-i.invariant _ k.0 c.admit-entry.new.self c.loop-i-test.true k.3 k.1 k.2 k.4 k.5 k.6
+    let k = c.in_ok-admit_entry.ensures in
+    one_more c.loop-i.invariant _ k.0 c.admit_entry.new.self c.loop-i-test.true k.3 k.1 k.2 k.4 k.5 k.6
 
-pub returns-in-err-admit-entry : goal.returns-in-err-admit-entry
-returns-in-err-admit-entry c =
-    let bad = bad_entry c.loop-i.invariant _ _ c.loop-i-test.true c.in-err-admit-entry.ensures in
+pub returns-in_err-admit_entry : goal.returns-in_err-admit_entry
+returns-in_err-admit_entry c =
+    let bad = bad_entry c.loop-i.invariant _ _ c.loop-i-test.true c.in_err-admit_entry.ensures in
     record {
-      answer = at_exit _ _ c.from-residual.result _ c.from-residual.ensures.1 bad;
-      law = at_exit _ _ c.from-residual.result _ c.from-residual.ensures.1 (no_table c.args.table.now _ bad);
+      answer = at_exit _ _ c.from_residual.result _ c.from_residual.ensures.1 bad;
+      law = at_exit _ _ c.from_residual.result _ c.from_residual.ensures.1 (no_table c.args.table.now _ bad);
     }
 
-pub returns-in-err-finish : goal.returns-in-err-finish
-returns-in-err-finish c =
+pub returns-in_err-finish : goal.returns-in_err-finish
+returns-in_err-finish c =
     let end : length c.args.table.now ≡ c.loop-i.i = omega arith in
-    let bad = not_whole c.loop-i.invariant (length c.args.table.now) _ end c.loop-i-test.false c.in-err-finish.ensures.0 c.in-err-finish.ensures.1 in
+    let bad = not_whole c.loop-i.invariant (length c.args.table.now) _ end c.loop-i-test.false c.in_err-finish.ensures.0 c.in_err-finish.ensures.1 in
     record {
-      answer = at_exit _ _ c.from-residual-in-err-finish.result _ c.from-residual-in-err-finish.ensures.1 bad;
-      law = at_exit _ _ c.from-residual-in-err-finish.result _ c.from-residual-in-err-finish.ensures.1 (no_table c.args.table.now _ bad);
+      answer = at_exit _ _ c.from_residual-in_err-finish.result _ c.from_residual-in_err-finish.ensures.1 bad;
+      law = at_exit _ _ c.from_residual-in_err-finish.result _ c.from_residual-in_err-finish.ensures.1 (no_table c.args.table.now _ bad);
     }
 
 pub returns : goal.returns
 returns c =
     record {
-      answer = whole c.loop-i.invariant c.loop-i-test.false c.in-ok-finish.ensures;
-      law = table_of c.loop-i.invariant c.loop-i-test.false c.in-ok-finish.ensures;
+      answer = whole c.loop-i.invariant c.loop-i-test.false c.in_ok-finish.ensures;
+      law = table_of c.loop-i.invariant c.loop-i-test.false c.in_ok-finish.ensures;
     }

@@ -4,6 +4,6 @@ use Rattle.slot_lines.proofs.slots.push_slots.Goals as goal
 
 pub returns : goal.returns
 returns c =
-    root_and_rest c.args.positions.now c.args.rows.now (string_bytes c.args.out.now) (string_bytes c.in-ok-line.line) (string_bytes c.push-str.new.self) (string_bytes c.push-child-slots.new.out) (omega (arith, c.requires.1.0)) c.in-ok-line.ensures
-    (c.in-ok-push-str.ensures.bytes ∙ ap (λ l. string_bytes c.args.out.now ++ l) c.as-str.ensures.value)
-    c.in-ok-push-child-slots.ensures
+    root_and_rest c.args.positions.now c.args.rows.now (string_bytes c.args.out.now) (string_bytes c.in_ok-line.line) (string_bytes c.push_str.new.self) (string_bytes c.push_child_slots.new.out) (omega (arith, c.requires.1.0)) c.in_ok-line.ensures
+    (c.in_ok-push_str.ensures.bytes ∙ ap (λ l. string_bytes c.args.out.now ++ l) c.as_str.ensures.value)
+    c.in_ok-push_child_slots.ensures

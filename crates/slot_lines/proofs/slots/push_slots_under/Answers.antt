@@ -7,8 +7,8 @@ loop-i-init c = none_under c.args.positions.now c.args.parent c.args.rows.now c.
 
 pub loop-i-preserved : goal.loop-i-preserved
 loop-i-preserved c =
-    one_under c.loop-i.invariant _ (string_bytes c.push-str.new.self) c.loop-i-test.true c.in-ok-line.ensures
-    (c.in-ok-push-str.ensures.bytes ∙ ap (λ l. string_bytes c.loop-i.out ++ l) c.as-str.ensures.value)
+    one_under c.loop-i.invariant _ (string_bytes c.push_str.new.self) c.loop-i-test.true c.in_ok-line.ensures
+    (c.in_ok-push_str.ensures.bytes ∙ ap (λ l. string_bytes c.loop-i.out ++ l) c.as_str.ensures.value)
 
 pub returns : goal.returns
 returns c = all_under c.loop-i.invariant c.loop-i-test.false c.loop-i.auto.i-end
