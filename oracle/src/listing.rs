@@ -6,10 +6,26 @@ use crate::parts::parts;
 use crate::pattern::{self, Pattern, Position, Reason, Refusal};
 use crate::slots::{Link, Slot, members, slots};
 
-/// The whole listing of a file; every line ends with byte 10.
+/// The whole listing of a file, as the program prints it; every line ends with byte 10.
 pub fn listing(file: &[u8]) -> String {
+    told(file, Detail::Positions)
+}
+
+/// The same with a line for each slot and its link, which the program does not print yet.
+pub fn listing_with_links(file: &[u8]) -> String {
+    told(file, Detail::Links)
+}
+
+/// How far a listing goes.
+#[derive(Clone, Copy, PartialEq)]
+enum Detail {
+    Positions,
+    Links,
+}
+
+fn told(file: &[u8], detail: Detail) -> String {
     let lines = match pattern::read(file) {
-        Ok(pattern) => accepted_lines(&pattern),
+        Ok(pattern) => accepted_lines(&pattern, detail),
         Err(refusal) => vec![
             format!("fault P {} {}", refusal.reason.number(), refusal.at),
             sentence(&refusal),
@@ -23,7 +39,7 @@ pub fn listing(file: &[u8]) -> String {
 
 /// Everything is told from the tree, the places too: each command begins where
 /// the bytes of the one before it end.
-fn accepted_lines(pattern: &Pattern) -> Vec<String> {
+fn accepted_lines(pattern: &Pattern, detail: Detail) -> Vec<String> {
     let commands = pattern.expression.commands();
     let mut lines = Vec::new();
     let mut at = 0;
@@ -34,6 +50,13 @@ fn accepted_lines(pattern: &Pattern) -> Vec<String> {
     for (number, position) in pattern.positions.iter().enumerate() {
         lines.push(format!("position {number}: {}", position_words(position)));
     }
+    let (commands, positions) = (commands.len(), pattern.positions.len());
+    if detail == Detail::Positions {
+        lines.push(format!(
+            "{commands} commands, {positions} positions, {at} bytes"
+        ));
+        return lines;
+    }
     let slots = slots(&pattern.positions);
     let links = climb::links(&parts(pattern), &pattern.positions);
     for (number, (slot, link)) in slots.iter().zip(links).enumerate() {
@@ -41,7 +64,7 @@ fn accepted_lines(pattern: &Pattern) -> Vec<String> {
         let link = link_words(link, &pattern.positions);
         lines.push(format!("slot {number}: {slot}, link {link}"));
     }
-    let (commands, positions, slots) = (commands.len(), pattern.positions.len(), slots.len());
+    let slots = slots.len();
     lines.push(format!(
         "{commands} commands, {positions} positions, {slots} slots, {at} bytes"
     ));
@@ -132,9 +155,10 @@ mod tests {
     use super::*;
     use crate::words;
 
+    const SAMPLE: &[u8] = b"L\x00\x0bN\x00\x14\x01\x07L\x00\x0aN\x00\x01\x02\x00*\x00\x0a";
+
     #[test]
     fn lists_the_sample() {
-        let sample = b"L\x00\x0bN\x00\x14\x01\x07L\x00\x0aN\x00\x01\x02\x00*\x00\x0a";
         let expected = "\
 at 0: leaf 11
 at 3: node 20, rank 1, points 7
@@ -145,18 +169,28 @@ position 0: constant 11, points 0
 position 1: node 20, rank 1, points 7
 position 2: constant 10, points 0
 position 3: node 1, rank 2, points 0
+5 commands, 4 positions, 19 bytes
+";
+        assert_eq!(listing(SAMPLE), expected);
+    }
+
+    #[test]
+    fn lists_the_links_of_the_sample() {
+        let expected = "\
 slot 0: root, link 12: 2 (constant 10), 3 (node 1)
 slot 1: child 1 of 1 (node 20), link 1: 0 (constant 11)
 slot 2: child 1 of 3 (node 1), link 2: 1 (node 20)
 slot 3: child 2 of 3 (node 1), link 12: 2 (constant 10), 3 (node 1)
 5 commands, 4 positions, 4 slots, 19 bytes
 ";
-        assert_eq!(listing(sample), expected);
+        let text = listing_with_links(SAMPLE);
+        let slots: String = text.split_inclusive('\n').skip(9).collect();
+        assert_eq!(slots, expected);
     }
 
     #[test]
     fn lists_an_empty_link() {
-        let text = listing(&words::postfix_file("10 12 20/1 .11"));
+        let text = listing_with_links(&words::postfix_file("10 12 20/1 .11"));
         let slots: Vec<&str> = text.lines().skip(8).collect();
         let expected = [
             "slot 0: root, link 1: 0 (constant 10)",

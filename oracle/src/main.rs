@@ -29,6 +29,7 @@ use std::process::ExitCode;
 use std::{env, fs};
 
 const USAGE: &str = "usage: oracle inspect FILE
+       oracle inspect-links FILE
        oracle inspect-cases SEED COUNT
        oracle random-cases SEED COUNT
        oracle answer-cases < CASES
@@ -71,6 +72,9 @@ fn run(arguments: &[OsString]) -> Result<Printed, String> {
             // A file that can't be read counts as empty.
             good(listing::listing(&fs::read(file).unwrap_or_default()))
         }
+        (Some("inspect-links"), [file]) => good(listing::listing_with_links(
+            &fs::read(file).unwrap_or_default(),
+        )),
         (Some("inspect-cases"), [seed, count]) => {
             let random = generate::lines(number(seed)?, number(count)?);
             good(ended(handpicked_lines().into_iter().chain(random)))
