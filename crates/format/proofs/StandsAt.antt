@@ -1,13 +1,20 @@
 -- What the readers of a command answer of a whole file: a command exactly where it stands. Once for both kinds
 -- of file, from what is known of the first command of some bytes. Assumes nothing.
-use Rattle.std.proofs.Common.{◌≡◌, ℕ, ◌+◌, ◌<◌, ◌≤◌, ltb, leb, List, ◌++◌, length, drop, Ok, Err, Result, sym, ap, ◌∙◌, subst, ⊎_elim, arith, Bor, ltb-false, leb-false, MatchResult}
+use Rattle.std.proofs.Common.{◌≡◌, ℕ, ◌+◌, ◌<◌, ◌≤◌, ltb, leb, List, ◌++◌, length, drop, Ok, Err, Result, sym, ap, ◌∙◌, subst, ⊎_elim, arith, Bor, ltb-false, leb-false, le-ltb, MatchResult}
+use borrow.Author.Tests.{lt-leb}
+use Rattle.std.proofs.lemmas.Bool.{cond-false}
 use Rattle.std.proofs.lemmas.List.{drop-drop, get_or-drop, length-drop, length-append}
 use Rattle.std.proofs.lemmas.Result.{MatchResult-weaker}
 use Rattle.format.specs.declared.fault.ByteFault.{ByteFault}
 use Rattle.format.specs.declared.fault.ByteFault.TheVariants.{FileTooLong, NoCommand}
-use Rattle.format.specs.Reading.{then, bytes_from, StandsAt}
-use Rattle.format.proofs.Decoding.{readable}
+use Rattle.format.specs.Reading.{then, bytes_from, Begins, StandsAt}
 use Rattle.format.proofs.Spelling.{AllBytes, Spelled, ways, never, inside, then_known}
+
+-- A file that is not too long is read at each of its places.
+pub readable : (file : List ℕ) (at : ℕ) → length file ≤ 65536 → at < length file → bytes_from file at ≡ Ok (drop at file)
+readable file at short inside =
+    cond-false (ltb 65536 (length file)) _ _ (le-ltb 65536 (length file) short)
+    ∙ cond-false (leb (length file) at) _ _ (lt-leb (length file) at inside)
 
 -- what is readable, and from where
 from_known : (file : List ℕ) (at : ℕ) (bs : List ℕ) → bytes_from file at ≡ Ok bs → (length file ≤ 65536) × (at < length file) × (drop at file ≡ bs)
@@ -39,20 +46,16 @@ module _ {C : Type 0} (bytes_of : C → List ℕ) (Operands : C → Type 0) (fir
         let within : at < length file = omega (arith, length-drop at file, long, some c) in
         ap (λ r. then r (first at)) (readable file at s.short within) ∙ ap (first at) s.here ∙ reads at c rest s.operands
 
-    pub nowhere : (file : List ℕ) (at : ℕ) (f : ByteFault) → then (bytes_from file at) (first at) ≡ Err f → (c : C) (rest : List ℕ) → StandsAt bytes_of Operands file at c rest → ⊥
-    nowhere file at f e c rest s = never f c (sym e ∙ read_there file at c rest s)
+-- From the answer on the first command of some bytes to what they begin with.
+pub begins_so : {C : Type 0} (bytes_of : C → List ℕ) (Operands : C → Type 0) (first : ℕ → List ℕ → Result C ByteFault) → ((at : ℕ) (bs : List ℕ) (c : C) → AllBytes bs → first at bs ≡ Ok c → Spelled bytes_of Operands bs c) → ((at : ℕ) (c : C) (rest : List ℕ) → Operands c → first at (bytes_of c ++ rest) ≡ Ok c) → (at : ℕ) (bs : List ℕ) → AllBytes bs → (r : Result (C × Bor (List ℕ)) ByteFault) → MatchResult r (λ v. (first at bs ≡ Ok v.0) × (v.1.now ≡ drop (length (bytes_of v.0)) bs)) (λ f. first at bs ≡ Err f) → MatchResult r (λ v. Begins bytes_of Operands bs v.0 v.1.now) (λ _. (c : C) (rest : List ℕ) → Begins bytes_of Operands bs c rest → ⊥)
+begins_so bytes_of Operands first spelled reads at bs all r h =
+    MatchResult-weaker r h
+    (λ v k. let s = spelled at bs v.0 all k.0 in record { here = s.0 ∙ ap (λ l. bytes_of v.0 ++ l) (sym k.1); operands = s.1 })
+    (λ f k c rest b. never f c (sym k ∙ ap (first at) b.here ∙ reads at c rest b.operands))
 
-    -- From the answer on the first command of some bytes to the answer on a file.
-    pub answered : (file : List ℕ) (at : ℕ) (bs : List ℕ) (r : Result (C × Bor (List ℕ)) ByteFault) → bytes_from file at ≡ Ok bs → MatchResult r (λ v. (first at bs ≡ Ok v.0) × (v.1.now ≡ drop (length (bytes_of v.0)) bs)) (λ f. first at bs ≡ Err f) → MatchResult r (λ v. (then (bytes_from file at) (first at) ≡ Ok v.0) × (v.1.now ≡ drop (at + length (bytes_of v.0)) file)) (λ f. then (bytes_from file at) (first at) ≡ Err f)
-    answered file at bs r e h =
-        let f = from_known file at bs e in
-        let begins = ap (λ b. then b (first at)) e in
-        MatchResult-weaker r h
-        (λ v k. (begins ∙ k.0, k.1 ∙ ap (drop (length (bytes_of v.0))) (sym f.2) ∙ drop-drop (length (bytes_of v.0)) at file))
-        (λ g k. begins ∙ k)
-
-    pub stands_so : (file : List ℕ) (at : ℕ) → AllBytes file → (r : Result (C × Bor (List ℕ)) ByteFault) → MatchResult r (λ v. (then (bytes_from file at) (first at) ≡ Ok v.0) × (v.1.now ≡ drop (at + length (bytes_of v.0)) file)) (λ f. then (bytes_from file at) (first at) ≡ Err f) → MatchResult r (λ v. StandsAt bytes_of Operands file at v.0 v.1.now) (λ f. (c : C) (rest : List ℕ) → StandsAt bytes_of Operands file at c rest → ⊥)
-    stands_so file at all r h =
-        MatchResult-weaker r h
-        (λ v k. subst (StandsAt bytes_of Operands file at v.0) (sym k.1) (stands_there file at v.0 all k.0))
-        (λ f k. nowhere file at f k)
+-- Where the bytes of a place can't be read, no command stands.
+pub nothing_there : {C : Type 0} (bytes_of : C → List ℕ) (Operands : C → Type 0) → ((c : C) → 0 < length (bytes_of c)) → (file : List ℕ) (at : ℕ) (f : ByteFault) → bytes_from file at ≡ Err f → (c : C) (rest : List ℕ) → StandsAt bytes_of Operands file at c rest → ⊥
+nothing_there bytes_of Operands some file at f e c rest s =
+    let long = ap length s.here ∙ length-append (bytes_of c) rest in
+    let within : at < length file = omega (arith, length-drop at file, long, some c) in
+    never f (drop at file) (sym e ∙ readable file at s.short within)

@@ -2,3 +2,4 @@ pub mod Commands
 pub mod Faults
 pub mod Reading
 pub mod Entries
+pub mod Words

@@ -78,18 +78,26 @@ abbrev pub bytes_from : List ℕ → ℕ → Result (List ℕ) ByteFault
 bytes_from file at =
     cond (nat_lt 65536 (length file)) (Err FileTooLong) (cond (nat_le (length file) at) (Err (NoCommand at)) (Ok (drop at file)))
 
--- The command at a place of a file.
+-- The command at a place of a file, from what some bytes begin with.
+abbrev pub command_at : {C : Type 0} → (ℕ → List ℕ → Result C ByteFault) → List ℕ → ℕ → Result C ByteFault
+command_at first file at = then (bytes_from file at) (first at)
+
 abbrev pub pattern_command_at : List ℕ → ℕ → Result PatternCommand ByteFault
-pattern_command_at file at = then (bytes_from file at) (pattern_first at)
+pattern_command_at = command_at pattern_first
 
 abbrev pub map_command_at : List ℕ → ℕ → Result MapCommand ByteFault
-map_command_at file at = then (bytes_from file at) (map_first at)
+map_command_at = command_at map_first
 
 -- A command stands at a place of a file, and `rest` lies behind it: the law above the definitions of this file.
 -- It is the same for both kinds of file, by the bytes of a command and the operands that it may have.
 pub record StandsAt {C : Type 0} (bytes_of : C → List ℕ) (Operands : C → Type 0) (file : List ℕ) (at : ℕ) (command : C) (rest : List ℕ) : Type 0 where
   pub short : length file ≤ 65536
   pub here : drop at file ≡ bytes_of command ++ rest
+  pub operands : Operands command
+
+-- Some bytes begin with a command, and `rest` lies behind it.
+pub record Begins {C : Type 0} (bytes_of : C → List ℕ) (Operands : C → Type 0) (bytes : List ℕ) (command : C) (rest : List ℕ) : Type 0 where
+  pub here : bytes ≡ bytes_of command ++ rest
   pub operands : Operands command
 
 leaf_11 : pattern_command_at (76 ∷ 0 ∷ 11 ∷ []) 0 ≡ Ok (Leaf 11)

@@ -1,37 +1,35 @@
-// One command of a file: each reader gets the whole file and a place, and answers the command there and the
-// rest of the file behind it, or what is wrong with the bytes.
+// One command of a file: the reader gets the whole file and a place, and answers the command there and the
+// rest of the file behind it, or what is wrong with the bytes. The place is handed on beside the bytes and not in a
+// struct with them: it only says where a fault is met, and the checks of operands get it for tables too.
 ghost use Rattle.std.specs.Prelude.{◌≡◌, ℕ, ◌+◌, List, length, drop, Ok, Err, MatchResult};
-ghost use Rattle.format.specs.declared.command.PatternCommand.{PatternCommand as Pattern};
-ghost use Rattle.format.specs.declared.command.MapCommand.{MapCommand as Map};
-ghost use Rattle.format.specs.Commands.{pattern_bytes, PatternOperands, map_bytes, MapOperands};
-ghost use Rattle.format.specs.Reading.{code_of, lone_code, bytes_from, pattern_first, pattern_command_at, map_first, map_command_at, StandsAt};
+ghost use Rattle.format.specs.Commands.{pattern_bytes, map_bytes};
+ghost use Rattle.format.specs.Reading.{code_of, lone_code, bytes_from, pattern_first, map_first, command_at, StandsAt};
 
-use crate::command::{MapCommand, PatternCommand};
+use crate::command::{Command, MapCommand, PatternCommand};
 use crate::fault::ByteFault;
 use crate::operand::{node_rank, nonzero_code};
 
 // The longest file that is read.
 pub const MAX_FILE: usize = 65536;
 
-// The command of a pattern file at the place `at`, and the rest of the file behind it.
-pub fn pattern_command(file: &[u8], at: usize) -> Result<(PatternCommand, &[u8]), ByteFault>
-    ensures answer { MatchResult result (λ v. (pattern_command_at file.now at ≡ Ok v.0) × (v.1.now ≡ drop (at + length (pattern_bytes v.0)) file.now)) (λ f. pattern_command_at file.now at ≡ Err f) }
-    ensures stands { MatchResult result (λ v. StandsAt pattern_bytes PatternOperands file.now at v.0 v.1.now) (λ f. (c : Pattern) (rest : List ℕ) → StandsAt pattern_bytes PatternOperands file.now at c rest → ⊥) }
+// The command at the place `at` of a file of its kind, and the rest of the file behind it.
+pub fn command_at<C: Command>(file: &[u8], at: usize) -> Result<(C, &[u8]), ByteFault>
+    ensures answer { MatchResult result
+        (λ v. (command_at C.first_of file.now at ≡ Ok v.0)
+        × (v.1.now ≡ drop (at + length (C.bytes_of v.0)) file.now))
+        (λ f. command_at C.first_of file.now at ≡ Err f) }
+    ensures stands { MatchResult result
+        (λ v. StandsAt C.bytes_of C.Operands file.now at v.0 v.1.now)
+        (λ f. (c : C) (rest : List ℕ) → StandsAt C.bytes_of C.Operands file.now at c rest → ⊥) }
 {
-    first_pattern_command(bytes_from(file, at)?, at)
-}
-
-// The command of a map file at the place `at`, and the rest of the file behind it.
-pub fn map_command(file: &[u8], at: usize) -> Result<(MapCommand, &[u8]), ByteFault>
-    ensures answer { MatchResult result (λ v. (map_command_at file.now at ≡ Ok v.0) × (v.1.now ≡ drop (at + length (map_bytes v.0)) file.now)) (λ f. map_command_at file.now at ≡ Err f) }
-    ensures stands { MatchResult result (λ v. StandsAt map_bytes MapOperands file.now at v.0 v.1.now) (λ f. (c : Map) (rest : List ℕ) → StandsAt map_bytes MapOperands file.now at c rest → ⊥) }
-{
-    first_map_command(bytes_from(file, at)?, at)
+    C::first(bytes_from(file, at)?, at)
 }
 
 // The bytes of the file from the place `at` on, of which there is one at least.
 fn bytes_from(file: &[u8], at: usize) -> Result<&[u8], ByteFault>
-    ensures { MatchResult result (λ b. (bytes_from file.now at ≡ Ok b.now) × (b.now ≡ drop at file.now)) (λ f. bytes_from file.now at ≡ Err f) }
+    ensures { MatchResult result
+        (λ b. (bytes_from file.now at ≡ Ok b.now) × (b.now ≡ drop at file.now))
+        (λ f. bytes_from file.now at ≡ Err f) }
 {
     if file.len() > MAX_FILE {
         return Err(ByteFault::FileTooLong);
@@ -51,7 +49,9 @@ fn code(high: u8, low: u8, at: usize) -> Result<u16, ByteFault>
 
 // The code of a command that has no other operand, and what lies behind it.
 fn lone_code(bytes: &[u8], at: usize) -> Result<(u16, &[u8]), ByteFault>
-    ensures { MatchResult result (λ v. (lone_code at (drop 1 bytes.now) ≡ Ok v.0) × (v.1.now ≡ drop 3 bytes.now)) (λ f. lone_code at (drop 1 bytes.now) ≡ Err f) }
+    ensures { MatchResult result
+        (λ v. (lone_code at (drop 1 bytes.now) ≡ Ok v.0) × (v.1.now ≡ drop 3 bytes.now))
+        (λ f. lone_code at (drop 1 bytes.now) ≡ Err f) }
 {
     let [_, high, low, rest @ ..] = bytes else {
         return Err(ByteFault::OperandsMissing { at });
@@ -59,9 +59,48 @@ fn lone_code(bytes: &[u8], at: usize) -> Result<(u16, &[u8]), ByteFault>
     Ok((code(*high, *low, at)?, rest))
 }
 
-// The command of a pattern with which the bytes begin, and what lies behind it.
+impl Command for PatternCommand {
+    ghost use Rattle.format.specs.Commands.{pattern_bytes, PatternOperands};
+    ghost use Rattle.format.specs.Reading.{pattern_first};
+    ghost use Rattle.std.proofs.Common.{rules};
+
+    ghost bytes_of = { pattern_bytes };
+
+    ghost Operands = { PatternOperands };
+
+    ghost first_of = { pattern_first };
+
+    fn first(bytes: &[u8], at: usize) -> Result<(PatternCommand, &[u8]), ByteFault> {
+        first_pattern_command(bytes, at)
+    }
+
+    ghost some = { Prim.search rules };
+}
+
+impl Command for MapCommand {
+    ghost use Rattle.format.specs.Commands.{map_bytes, MapOperands};
+    ghost use Rattle.format.specs.Reading.{map_first};
+    ghost use Rattle.std.proofs.Common.{rules};
+
+    ghost bytes_of = { map_bytes };
+
+    ghost Operands = { MapOperands };
+
+    ghost first_of = { map_first };
+
+    fn first(bytes: &[u8], at: usize) -> Result<(MapCommand, &[u8]), ByteFault> {
+        first_map_command(bytes, at)
+    }
+
+    ghost some = { Prim.search rules };
+}
+
+// The command of a pattern with which the bytes begin, and what lies behind it. It stands outside the impl above, so that
+// what the bytes begin with is shown once, of the answer, and not at each letter.
 fn first_pattern_command(bytes: &[u8], at: usize) -> Result<(PatternCommand, &[u8]), ByteFault>
-    ensures { MatchResult result (λ v. (pattern_first at bytes.now ≡ Ok v.0) × (v.1.now ≡ drop (length (pattern_bytes v.0)) bytes.now)) (λ f. pattern_first at bytes.now ≡ Err f) }
+    ensures { MatchResult result
+        (λ v. (pattern_first at bytes.now ≡ Ok v.0) × (v.1.now ≡ drop (length (pattern_bytes v.0)) bytes.now))
+        (λ f. pattern_first at bytes.now ≡ Err f) }
 {
     let [letter, behind @ ..] = bytes else {
         return Err(ByteFault::NoCommand { at });
@@ -99,9 +138,12 @@ fn first_pattern_command(bytes: &[u8], at: usize) -> Result<(PatternCommand, &[u
     }
 }
 
-// The command of a map with which the bytes begin, and what lies behind it.
+// The command of a map with which the bytes begin, and what lies behind it. Not one function with the one above: what
+// the two kinds share is `lone_code`, `code` and `node_rank`, and all else, letters and what they make, is different.
 fn first_map_command(bytes: &[u8], at: usize) -> Result<(MapCommand, &[u8]), ByteFault>
-    ensures { MatchResult result (λ v. (map_first at bytes.now ≡ Ok v.0) × (v.1.now ≡ drop (length (map_bytes v.0)) bytes.now)) (λ f. map_first at bytes.now ≡ Err f) }
+    ensures { MatchResult result
+        (λ v. (map_first at bytes.now ≡ Ok v.0) × (v.1.now ≡ drop (length (map_bytes v.0)) bytes.now))
+        (λ f. map_first at bytes.now ≡ Err f) }
 {
     let [letter, ..] = bytes else {
         return Err(ByteFault::NoCommand { at });

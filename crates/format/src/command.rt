@@ -1,14 +1,39 @@
 // The commands that pattern files and map files are made of. In a file a command is one letter and
 // operands of fixed width; specs/Commands.antt has the bytes of each.
-ghost use Rattle.std.specs.Prelude.{◌≡◌, length};
+ghost use Rattle.std.specs.Prelude.{◌≡◌, ℕ, ◌<◌, List, length, drop, Ok, Err, Result, MatchResult};
+ghost use Rattle.format.specs.declared.fault.ByteFault.{ByteFault as Fault};
 ghost use Rattle.format.specs.Commands.{takes, pattern_bytes};
-ghost use Rattle.format.specs.Entries.{entry_of};
+ghost use Rattle.format.specs.Reading.{Begins};
 
-use crate::entry::Entry;
+use crate::fault::ByteFault;
 
-// A command of a pattern file.
-#[derive(Clone, Copy, PartialEq)]
+// The commands of one kind of file.
+pub trait Command {
+    // The bytes of a command; the operands that it may have; and the command with which some bytes begin, or what is
+    // wrong there, told at the place of the first byte.
+    ghost bytes_of: { Self → List ℕ };
+
+    ghost Operands: { Self → Type 0 };
+
+    ghost first_of: { ℕ → List ℕ → Result Self Fault };
+
+    // The command with which the bytes begin, and what lies behind it.
+    fn first(bytes: &[u8], at: usize) -> Result<(Self, &[u8]), ByteFault>
+        ensures answer { MatchResult result
+            (λ v. (first_of at bytes.now ≡ Ok v.0) × (v.1.now ≡ drop (length (bytes_of v.0)) bytes.now))
+            (λ f. first_of at bytes.now ≡ Err f) }
+        ensures begins { MatchResult result
+            (λ v. Begins bytes_of Operands bytes.now v.0 v.1.now)
+            (λ _. (c : Self) (rest : List ℕ) → Begins bytes_of Operands bytes.now c rest → ⊥) };
+
+    // No command is without bytes.
+    ghost some: { (c : Self) → 0 < length (bytes_of c) };
+}
+
+// A command of a pattern file. The default fills places that no command has yet.
+#[derive(Clone, Copy, Debug, Default, PartialEq, Eq)]
 pub enum PatternCommand {
+    #[default]
     Sum,
     Leaf { code: u16 },
     Node { code: u16, rank: u8, points: u8 },
@@ -17,7 +42,7 @@ pub enum PatternCommand {
 }
 
 // A command of a map file.
-#[derive(Clone, Copy, PartialEq)]
+#[derive(Clone, Copy, Debug, PartialEq, Eq)]
 pub enum MapCommand {
     Leaf { code: u16 },
     Node { code: u16, rank: u8 },
@@ -29,15 +54,10 @@ impl PatternCommand {
         ensures { result ≡ takes self }
     {
         match self {
-            PatternCommand::Sum => 2,
-            PatternCommand::Leaf { code: _ } => 0,
-            PatternCommand::Node {
-                code: _,
-                rank,
-                points: _,
-            } => rank as usize,
-            PatternCommand::Product { code: _ } => 2,
-            PatternCommand::Closure { code: _ } => 1,
+            PatternCommand::Leaf { .. } => 0,
+            PatternCommand::Node { rank, .. } => usize::from(rank),
+            PatternCommand::Sum | PatternCommand::Product { .. } => 2,
+            PatternCommand::Closure { .. } => 1,
         }
     }
 
@@ -47,27 +67,10 @@ impl PatternCommand {
     {
         match self {
             PatternCommand::Sum => 1,
-            PatternCommand::Leaf { code: _ } => 3,
-            PatternCommand::Node {
-                code: _,
-                rank: _,
-                points: _,
-            } => 5,
-            PatternCommand::Product { code: _ } => 3,
-            PatternCommand::Closure { code: _ } => 3,
-        }
-    }
-
-    // The entry of the command in a pattern's table.
-    pub fn entry(self) -> Entry
-        ensures { result ≡ entry_of self }
-    {
-        match self {
-            PatternCommand::Sum => Entry::new(b'+', 0, 0, 0),
-            PatternCommand::Leaf { code } => Entry::new(b'L', code, 0, 0),
-            PatternCommand::Node { code, rank, points } => Entry::new(b'N', code, rank, points),
-            PatternCommand::Product { code } => Entry::new(b'.', code, 0, 0),
-            PatternCommand::Closure { code } => Entry::new(b'*', code, 0, 0),
+            PatternCommand::Leaf { .. }
+            | PatternCommand::Product { .. }
+            | PatternCommand::Closure { .. } => 3,
+            PatternCommand::Node { .. } => 5,
         }
     }
 }

@@ -1,11 +1,29 @@
 // Why a file is refused. Each case has a number and a place, which specs/Faults.antt defines; a fault of
 // the bytes sits inside the fault of the reading above it, with its number and place kept.
-ghost use Rattle.std.specs.Prelude.{◌≡◌};
+ghost use Rattle.std.specs.Prelude.{◌≡◌, ℕ, ◌<◌, ◌≤◌};
 ghost use Rattle.format.specs.declared.fault.PatternFault.TheVariants.{Bytes};
 ghost use Rattle.format.specs.Faults.{byte_number, byte_place, pattern_number, pattern_place};
 
+use crate::bytes::MAX_FILE;
+
+// What a refusal is told by: its number, and the place where it was met.
+pub trait Refusal {
+    ghost number_of: { Self → ℕ };
+
+    ghost place_of: { Self → ℕ };
+
+    fn number(self) -> u8
+        ensures { result ≡ number_of self };
+
+    fn place(self) -> usize
+        ensures { result ≡ place_of self };
+
+    // There are seventeen numbers.
+    ghost seventeen: { (f : Self) → (0 < number_of f) × (number_of f ≤ 17) };
+}
+
 // What is wrong with the bytes of one command, or with the length of the file.
-#[derive(Clone, Copy, PartialEq)]
+#[derive(Clone, Copy, Debug, PartialEq, Eq)]
 pub enum ByteFault {
     FileTooLong,
     NoCommand { at: usize },
@@ -15,7 +33,7 @@ pub enum ByteFault {
 }
 
 // What is wrong with a pattern.
-#[derive(Clone, Copy, PartialEq)]
+#[derive(Clone, Copy, Debug, PartialEq, Eq)]
 pub enum PatternFault {
     Bytes(ByteFault),
     PartsMissing { at: usize },
@@ -32,54 +50,62 @@ impl From<ByteFault> for PatternFault {
     }
 }
 
-impl ByteFault {
-    pub fn number(self) -> u8
-        ensures { result ≡ byte_number self }
-    {
+impl Refusal for ByteFault {
+    ghost use Rattle.std.proofs.Common.{rules};
+
+    ghost number_of = { byte_number };
+
+    ghost place_of = { byte_place };
+
+    fn number(self) -> u8 {
         match self {
             ByteFault::FileTooLong => 17,
-            ByteFault::NoCommand { at: _ } => 1,
-            ByteFault::OperandsMissing { at: _ } => 2,
-            ByteFault::CodeZero { at: _ } => 3,
-            ByteFault::RankOutside { at: _ } => 4,
+            ByteFault::NoCommand { .. } => 1,
+            ByteFault::OperandsMissing { .. } => 2,
+            ByteFault::CodeZero { .. } => 3,
+            ByteFault::RankOutside { .. } => 4,
         }
     }
 
-    pub fn place(self) -> usize
-        ensures { result ≡ byte_place self }
-    {
+    fn place(self) -> usize {
         match self {
-            ByteFault::FileTooLong => 65536,
-            ByteFault::NoCommand { at } => at,
-            ByteFault::OperandsMissing { at } => at,
-            ByteFault::CodeZero { at } => at,
-            ByteFault::RankOutside { at } => at,
+            ByteFault::FileTooLong => MAX_FILE,
+            ByteFault::NoCommand { at }
+            | ByteFault::OperandsMissing { at }
+            | ByteFault::CodeZero { at }
+            | ByteFault::RankOutside { at } => at,
         }
     }
+
+    ghost seventeen = { Prim.search rules };
 }
 
-impl PatternFault {
-    pub fn number(self) -> u8
-        ensures { result ≡ pattern_number self }
-    {
+impl Refusal for PatternFault {
+    ghost use Rattle.std.proofs.Common.{rules};
+
+    ghost number_of = { pattern_number };
+
+    ghost place_of = { pattern_place };
+
+    fn number(self) -> u8 {
         match self {
             PatternFault::Bytes(fault) => fault.number(),
-            PatternFault::PartsMissing { at: _ } => 5,
-            PatternFault::NotOnePart { at: _, pending: _ } => 6,
-            PatternFault::PositionsFull { at: _ } => 7,
-            PatternFault::TableFull { at: _ } => 8,
+            PatternFault::PartsMissing { .. } => 5,
+            PatternFault::NotOnePart { .. } => 6,
+            PatternFault::PositionsFull { .. } => 7,
+            PatternFault::TableFull { .. } => 8,
         }
     }
 
-    pub fn place(self) -> usize
-        ensures { result ≡ pattern_place self }
-    {
+    fn place(self) -> usize {
         match self {
             PatternFault::Bytes(fault) => fault.place(),
-            PatternFault::PartsMissing { at } => at,
-            PatternFault::NotOnePart { at, pending: _ } => at,
-            PatternFault::PositionsFull { at } => at,
-            PatternFault::TableFull { at } => at,
+            PatternFault::PartsMissing { at }
+            | PatternFault::NotOnePart { at, .. }
+            | PatternFault::PositionsFull { at }
+            | PatternFault::TableFull { at } => at,
         }
     }
+
+    ghost seventeen = { Prim.search rules };
 }

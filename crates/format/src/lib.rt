@@ -7,3 +7,4 @@ pub mod command;
 pub mod entry;
 pub mod fault;
 mod operand;
+mod words;

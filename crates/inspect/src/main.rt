@@ -7,14 +7,10 @@ use std::{env, fs, io};
 
 fn main(rt: HostRuntime) -> io::Result<()> {
     let heap = rt.alloc();
-    let mut args = env::args(&rt)?.skip(1);
-    let path = match args.next() {
+    let path = match env::args(&rt)?.nth(1) {
         Some(path) => path,
         None => String::from_str(heap, "PATTERN")?,
     };
-    let file = match fs::read(&rt, path.as_str()) {
-        Ok(file) => file,
-        Err(_) => Vec::new(heap),
-    };
+    let file = fs::read(&rt, path.as_str()).unwrap_or_else(|_| Vec::new(heap));
     rt.print(inspect(heap, file.as_slice())?)
 }

@@ -1,5 +1,6 @@
 // Working the links of tables.
 use format::entry::Entry;
+use format::fault::Refusal;
 use links::link::link_rows;
 use std::process::Abort;
 use std::test::Fail;
@@ -7,52 +8,42 @@ use std::test::Fail;
 // What lent numbers hold before a call.
 const FILL: u64 = 0xaaaa_aaaa_aaaa_aaaa;
 
-fn entry(kind: u8, code: u16, rank: u8, points: u8) -> Entry {
-    Entry {
-        kind,
-        code,
-        rank,
-        points,
-    }
-}
-
 fn leaf(code: u16) -> Entry {
-    entry(b'L', code, 0, 0)
+    Entry::new(b'L', code, 0, 0)
 }
 
 fn node(code: u16, rank: u8) -> Entry {
-    entry(b'N', code, rank, 0)
+    Entry::new(b'N', code, rank, 0)
 }
 
 // The closure at 10 of node 1 over node 20 on leaf 11, and leaf 10.
 fn sample() -> [Entry; 5] {
     [
         leaf(11),
-        entry(b'N', 20, 1, 7),
+        Entry::new(b'N', 20, 1, 7),
         leaf(10),
         node(1, 2),
-        entry(b'*', 10, 0, 0),
+        Entry::new(b'*', 10, 0, 0),
     ]
 }
 
 // The table has these links, and numbers behind them stay as they were.
 fn linked(rt: &impl Abort, table: &[Entry], links: &[u64], why: &str) -> Result<(), Fail> {
     let mut rows = [FILL; 9];
-    let count = match link_rows(table, &mut rows) {
-        Ok(count) => count,
-        Err(_) => return Err(Fail::new("the table was refused")),
+    let Ok(count) = link_rows(table, &mut rows) else {
+        return Err(Fail::new("the table was refused"));
     };
     assert_eq!(rt; count, links.len(), "{why}");
-    for (row, link) in rows.iter().zip(links.iter()) {
-        assert_eq!(rt; *row, *link, "{why}");
-    }
-    for row in rows.iter().skip(links.len()) {
-        assert_eq!(rt; *row, FILL, "{why}");
-    }
+    assert!(rt; rows.starts_with(links), "{why}");
+    assert!(rt;
+        rows.iter().skip(links.len()).all(|row| *row == FILL),
+        "{why}"
+    );
     Ok(())
 }
 
-// The table is refused with this number at this place, and the lent numbers stay as they were.
+// The table is refused with this number at this place, and the lent numbers stay as they were. `told` of pattern_tests
+// asks the same of the fault: a helper of tests is not shared between crates.
 fn refused(
     rt: &impl Abort,
     table: &[Entry],
@@ -61,16 +52,12 @@ fn refused(
     place: usize,
     why: &str,
 ) -> Result<(), Fail> {
-    match link_rows(table, rows) {
-        Ok(_) => return Err(Fail::new("the table was accepted")),
-        Err(fault) => {
-            assert_eq!(rt; fault.number(), number, "{why}");
-            assert_eq!(rt; fault.place(), place, "{why}");
-        }
-    }
-    for row in rows.iter() {
-        assert_eq!(rt; *row, FILL, "{why}");
-    }
+    let Err(fault) = link_rows(table, rows) else {
+        return Err(Fail::new("the table was accepted"));
+    };
+    assert_eq!(rt; fault.number(), number, "{why}");
+    assert_eq!(rt; fault.place(), place, "{why}");
+    assert!(rt; rows.iter().all(|row| *row == FILL), "{why}");
     Ok(())
 }
 
@@ -79,7 +66,7 @@ fn worked_links(rt: HostRuntime) -> Result<(), Fail> {
     linked(&rt, &sample(), &[12, 1, 2, 12], "the sample")?;
     linked(
         &rt,
-        &[leaf(10), leaf(12), node(20, 1), entry(b'.', 11, 0, 0)],
+        &[leaf(10), leaf(12), node(20, 1), Entry::new(b'.', 11, 0, 0)],
         &[1, 0],
         "a second part that is never reached",
     )?;
@@ -87,10 +74,10 @@ fn worked_links(rt: HostRuntime) -> Result<(), Fail> {
         &rt,
         &[
             leaf(11),
-            entry(b'N', 20, 1, 7),
+            Entry::new(b'N', 20, 1, 7),
             leaf(11),
-            entry(b'N', 20, 1, 3),
-            entry(b'+', 0, 0, 0),
+            Entry::new(b'N', 20, 1, 3),
+            Entry::new(b'+', 0, 0, 0),
         ],
         &[6, 1, 1],
         "two nodes of one symbol",
@@ -103,8 +90,8 @@ fn worked_links(rt: HostRuntime) -> Result<(), Fail> {
             node(2, 2),
             leaf(11),
             leaf(12),
-            entry(b'+', 0, 0, 0),
-            entry(b'.', 10, 0, 0),
+            Entry::new(b'+', 0, 0, 0),
+            Entry::new(b'.', 10, 0, 0),
         ],
         &[2, 12, 12],
         "the constant is taken out",
@@ -116,8 +103,8 @@ fn worked_links(rt: HostRuntime) -> Result<(), Fail> {
             node(4, 1),
             leaf(1),
             leaf(2),
-            entry(b'+', 0, 0, 0),
-            entry(b'.', 1, 0, 0),
+            Entry::new(b'+', 0, 0, 0),
+            Entry::new(b'.', 1, 0, 0),
         ],
         &[2, 5],
         "a constant that is replaced and comes back",
@@ -154,7 +141,7 @@ fn tables_that_no_pattern_gives(rt: HostRuntime) -> Result<(), Fail> {
     )?;
     refused(
         &rt,
-        &[a, b, c, d, e, entry(0, 0, 0, 0)],
+        &[a, b, c, d, e, Entry::new(0, 0, 0, 0)],
         &mut [FILL; 9],
         1,
         5,
@@ -162,7 +149,7 @@ fn tables_that_no_pattern_gives(rt: HostRuntime) -> Result<(), Fail> {
     )?;
     refused(
         &rt,
-        &[entry(b'L', 0, 1, 0)],
+        &[Entry::new(b'L', 0, 1, 0)],
         &mut [FILL; 9],
         1,
         0,
@@ -170,7 +157,7 @@ fn tables_that_no_pattern_gives(rt: HostRuntime) -> Result<(), Fail> {
     )?;
     refused(
         &rt,
-        &[entry(b'N', 0, 9, 0)],
+        &[Entry::new(b'N', 0, 9, 0)],
         &mut [FILL; 9],
         3,
         0,
@@ -178,7 +165,7 @@ fn tables_that_no_pattern_gives(rt: HostRuntime) -> Result<(), Fail> {
     )?;
     refused(
         &rt,
-        &[entry(b'N', 1, 9, 0)],
+        &[Entry::new(b'N', 1, 9, 0)],
         &mut [FILL; 9],
         4,
         0,
@@ -186,7 +173,7 @@ fn tables_that_no_pattern_gives(rt: HostRuntime) -> Result<(), Fail> {
     )?;
     refused(
         &rt,
-        &[leaf(1), entry(b'.', 2, 0, 0)],
+        &[leaf(1), Entry::new(b'.', 2, 0, 0)],
         &mut [FILL; 9],
         5,
         1,

@@ -15,7 +15,7 @@ use Rattle.links.specs.Locality.{Operands}
 use Rattle.links.specs.Numbering.{named}
 use Rattle.links.specs.Slots.{slots, slots_under, child_slots}
 use Rattle.links.proofs.Naming.{extends_after, extends_self}
-use Rattle.links.proofs.NumberLoops.{under_length}
+use Rattle.links.proofs.Places.{under_length}
 use Rattle.links.proofs.Splices.{all_split}
 
 -- ranks of at most 4

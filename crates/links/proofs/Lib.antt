@@ -19,12 +19,11 @@ pub mod Sayings
 pub mod SlotRows
 pub mod ChildRows
 pub mod ExactRows
-pub mod RowLoops
 pub mod Splices
 pub mod Peeling
 pub mod PartTurns
 pub mod NodeTurns
-pub mod NumberLoops
+pub mod Places
 pub mod NumberTurns
 pub mod FewSlots
 pub mod WholeTurns

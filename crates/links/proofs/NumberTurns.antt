@@ -1,9 +1,8 @@
 -- Numbering the commands of a table, one after another: what is numbered so far is the front of the numbered
 -- pattern's commands. Assumes nothing.
-use Rattle.std.proofs.Common.{◌≡◌, ℕ, ◌+◌, ◌-◌, ◌<◌, ◌≤◌, List, [], ◌∷◌, ◌++◌, length, get_or, take, drop, set, sym, refl, ap, ◌∙◌, subst, arith}
-use native.Mathlib.Nat.{sub-zero}
+use Rattle.std.proofs.Common.{◌≡◌, ℕ, ◌+◌, ◌<◌, ◌≤◌, List, [], ◌∷◌, ◌++◌, length, get_or, take, drop, sym, refl, ap, ◌∙◌, arith}
 use Rattle.std.proofs.ByRecursion.{All-get_or}
-use Rattle.std.proofs.lemmas.List.{length-map, get_or-map, take_more, take_more_set, take_all, take_at, take-append-drop}
+use Rattle.std.proofs.lemmas.List.{length-map, length_push, get_or-map, take_more, take_all, take-append-drop}
 use Rattle.std.specs.List.{AllByRecursion}
 use Rattle.format.specs.declared.command.PatternCommand.{PatternCommand}
 use Rattle.format.specs.declared.command.PatternCommand.TheVariants.{Sum, Node, Product, Closure}
@@ -16,8 +15,8 @@ use Rattle.pattern.specs.Expressions.{Expr, leaf, node, sum, product, closure, P
 use Rattle.pattern.specs.Positions.{new_position, positions_after, positions}
 use Rattle.pattern.proofs.Stack.{commands_known}
 use Rattle.links.specs.Commands.{numbered_command, numbered_commands}
-use Rattle.links.specs.Numbering.{numbered_behind, parts_behind, numbered, named}
-use Rattle.links.proofs.Naming.{Extends, extends_self, extends_after, extends_length, after_append, after_one}
+use Rattle.links.specs.Numbering.{numbered_behind, parts_behind, numbered}
+use Rattle.links.proofs.Naming.{after_length, after_append, after_one}
 use Rattle.links.proofs.NumberedFine.{count_behind}
 
 -- a pattern is known by its table
@@ -60,50 +59,44 @@ mutual
       ∙ ap (λ l. l ++ numbered_commands (positions_after ps (parts_commands qs)) (commands e)) (parts_commands_behind qs ps)
       ∙ ap (λ l. parts_commands (parts_behind qs ps) ++ l) (commands_behind e (positions_after ps (parts_commands qs)))
 
--- How far the numbering of the commands `cs` has come: the first i are numbered, and they name `named` positions.
-pub record Counted (cs : List PatternCommand) (i named : ℕ) (numbered : List PatternCommand) : Type 0 where
-  pub names : named ≡ length (positions (take i cs))
-  pub front : take i numbered ≡ numbered_commands [] (take i cs)
+-- How far the numbering of the commands `cs` has come: the first i are numbered, and they name the positions `ps`.
+pub record Counted (cs : List PatternCommand) (i : ℕ) (ps : List Position) (numbered : List PatternCommand) : Type 0 where
+  pub names : ps ≡ positions (take i cs)
+  pub many : length numbered ≡ i
+  pub front : numbered ≡ numbered_commands [] (take i cs)
 
-pub none_numbered : (cs numbered : List PatternCommand) → Counted cs 0 0 numbered
-none_numbered cs numbered = record { names = refl; front = refl }
+-- the positions of all commands begin with those of the first, and are no fewer
+fewer_first : (cs : List PatternCommand) (i : ℕ) → length (positions (take i cs)) ≤ length (positions cs)
+fewer_first cs i =
+    let whole : positions_after (positions (take i cs)) (drop i cs) ≡ positions cs = sym (after_append (take i cs) (drop i cs) []) ∙ ap positions (take-append-drop i cs) in
+    omega (arith, ap length whole, after_length (positions (take i cs)) (drop i cs))
 
-module _ (cs : List PatternCommand) (i named : ℕ) (numbered : List PatternCommand) (so : Counted cs i named numbered) where
-  -- the positions of all commands begin with those of the first
-  longer : Extends (positions (take i cs)) (positions cs)
-  longer =
-      let whole : positions_after (positions (take i cs)) (drop i cs) ≡ positions cs = sym (after_append (take i cs) (drop i cs) []) ∙ ap positions (take-append-drop i cs) in
-      extends_after (drop i cs) (positions (take i cs)) (positions cs) (subst (λ l. Extends l (positions cs)) (sym whole) (extends_self (positions cs)))
+module _ (cs : List PatternCommand) (i : ℕ) (ps : List Position) (numbered : List PatternCommand) (so : Counted cs i ps numbered) (c : PatternCommand) (h : i < length cs) (is : get_or cs i Sum ≡ c) where
+  more : take (i + 1) cs ≡ take i cs ++ c ∷ []
+  more = take_more cs i Sum h ∙ ap (λ d. take i cs ++ d ∷ []) is
 
-  pub names_within : named ≤ length (positions cs)
-  names_within = omega (arith, so.names, extends_length (positions (take i cs)) (positions cs) longer)
+  after : ps ++ new_position c ps ≡ positions (take (i + 1) cs)
+  after = ap (λ l. l ++ new_position c l) so.names ∙ sym (after_one (take i cs) c []) ∙ ap positions (sym more)
 
-  pub names_front : take (named - 0) (positions cs) ≡ positions (take i cs)
-  names_front =
-      ap (λ n. take n (positions cs)) (sub-zero named) ∙ ap (take named) longer.1 ∙ take_at (positions (take i cs)) longer.0 named (sym so.names)
+  pub next_within : length (ps ++ new_position c ps) ≤ length (positions cs)
+  next_within = omega (arith, ap length after, fewer_first cs (i + 1))
 
-  pub one_numbered : (c : PatternCommand) (r : PatternCommand × ℕ) → i < length cs → i < length numbered → get_or cs i Sum ≡ c → (r.0 ≡ numbered_command (take (named - 0) (positions cs)) c) × (r.1 ≡ length (take (named - 0) (positions cs) ++ new_position c (take (named - 0) (positions cs)))) → Counted cs (i + 1) r.1 (set numbered i r.0)
-  one_numbered c r h k is given =
-      let more : take (i + 1) cs ≡ take i cs ++ c ∷ [] = take_more cs i Sum h ∙ ap (λ d. take i cs ++ d ∷ []) is in
-      record {
-        names =
-            given.1 ∙ ap (λ ps. length (ps ++ new_position c ps)) names_front
-            ∙ ap length (sym (after_one (take i cs) c []))
-            ∙ ap (λ l. length (positions l)) (sym more);
-        front =
-            take_more_set numbered i r.0 k
-            ∙ ap (λ l. l ++ r.0 ∷ []) so.front
-            ∙ ap (λ d. numbered_commands [] (take i cs) ++ d ∷ []) (given.0 ∙ ap (λ ps. numbered_command ps c) names_front)
-            ∙ sym (numbered_append (take i cs) (c ∷ []) [])
-            ∙ ap (numbered_commands []) (sym more);
-      }
+  pub one_numbered : Counted cs (i + 1) (ps ++ new_position c ps) (numbered ++ numbered_command ps c ∷ [])
+  one_numbered = record {
+    names = after;
+    many = omega (arith, length_push numbered (numbered_command ps c), so.many);
+    front =
+        ap (λ l. l ++ numbered_command ps c ∷ []) so.front
+        ∙ ap (λ l. numbered_commands [] (take i cs) ++ numbered_command l c ∷ []) so.names
+        ∙ sym (numbered_append (take i cs) (c ∷ []) [])
+        ∙ ap (numbered_commands []) (sym more);
+  }
 
 -- all are numbered
-pub all_numbered : (e : Expr) (i named n : ℕ) (memory : List PatternCommand) → Counted (commands e) i named memory → i ≡ n → length (commands e) ≡ n → take n memory ≡ commands (numbered e)
-all_numbered e i named n memory so is long =
-    ap (λ k. take k memory) (sym is)
-    ∙ so.front
-    ∙ ap (numbered_commands []) (take_all i (commands e) (omega (arith, is, long)))
+pub all_numbered : (e : Expr) (i : ℕ) (ps : List Position) (numbers : List PatternCommand) → Counted (commands e) i ps numbers → length (commands e) ≤ i → numbers ≡ commands (numbered e)
+all_numbered e i ps numbers so long =
+    so.front
+    ∙ ap (numbered_commands []) (take_all i (commands e) long)
     ∙ commands_behind e []
 
 pub as_many : (e : Expr) (entries : List Entry) → entries ≡ table e → length entries ≡ length (commands e)

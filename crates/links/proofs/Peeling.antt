@@ -96,93 +96,100 @@ pub root_rows_length : (ps : Parts) → length (root_rows ps) ≡ count ps
 root_rows_length no_parts = refl
 root_rows_length (ps ▸ e) = length_push (root_rows ps) (root_row e) ∙ add-one (length (root_rows ps)) ∙ ap suc (root_rows_length ps)
 
-module _ (cs init before : List PatternCommand) (e : Expr) where
-  pub peel_leaf : (c : ℕ) → cs ≡ init ++ Leaf c ∷ [] → Ends cs before e → (e ≡ leaf c) × (init ≡ before)
-  peel_leaf c is ends =
-      let p = peel cs init before (Leaf c) e is ends in
-      let k = is_leaf c e p.1 in
-      (k, p.0 ∙ ap (λ f. before ++ inner f) k ∙ append-nil before)
+module _ (cs init before : List PatternCommand) (last : PatternCommand) (e : Expr) (is : cs ≡ init ++ last ∷ []) (ends : Ends cs before e) where
+  peeled : (init ≡ before ++ inner e) × (last ≡ head e)
+  peeled = peel cs init before last e is ends
 
-  pub peel_node : (c rank points : ℕ) → cs ≡ init ++ Node c rank points ∷ [] → Ends cs before e → (ps : Parts) × (e ≡ node c points ps) × (count ps ≡ rank) × (init ≡ before ++ parts_commands ps)
-  peel_node c rank points is ends =
-      let p = peel cs init before (Node c rank points) e is ends in
-      let k = is_node c rank points e p.1 in
-      (k.0, k.1, k.2, p.0 ∙ ap (λ f. before ++ inner f) k.1)
+  pub peel_leaf : (c : ℕ) → last ≡ Leaf c → (e ≡ leaf c) × (init ≡ before)
+  peel_leaf c kind =
+      let k = is_leaf c e (sym kind ∙ peeled.1) in
+      (k, peeled.0 ∙ ap (λ f. before ++ inner f) k ∙ append-nil before)
 
-  pub peel_sum : cs ≡ init ++ Sum ∷ [] → Ends cs before e → (a : Expr) × (b : Expr) × (e ≡ sum a b) × Ends init (before ++ commands a) b
-  peel_sum is ends =
-      let p = peel cs init before Sum e is ends in
-      let k = is_sum e p.1 in
-      (k.0, k.1, k.2, p.0 ∙ ap (λ f. before ++ inner f) k.2 ∙ sym (append_assoc before (commands k.0) (commands k.1)))
+  pub peel_node : (c rank points : ℕ) → last ≡ Node c rank points → (ps : Parts) × (e ≡ node c points ps) × (count ps ≡ rank) × (init ≡ before ++ parts_commands ps)
+  peel_node c rank points kind =
+      let k = is_node c rank points e (sym kind ∙ peeled.1) in
+      (k.0, k.1, k.2, peeled.0 ∙ ap (λ f. before ++ inner f) k.1)
 
-  pub peel_product : (c : ℕ) → cs ≡ init ++ Product c ∷ [] → Ends cs before e → (a : Expr) × (b : Expr) × (e ≡ product c a b) × Ends init (before ++ commands a) b
-  peel_product c is ends =
-      let p = peel cs init before (Product c) e is ends in
-      let k = is_product c e p.1 in
-      (k.0, k.1, k.2, p.0 ∙ ap (λ f. before ++ inner f) k.2 ∙ sym (append_assoc before (commands k.0) (commands k.1)))
+  pub peel_sum : last ≡ Sum → (a : Expr) × (b : Expr) × (e ≡ sum a b) × Ends init (before ++ commands a) b
+  peel_sum kind =
+      let k = is_sum e (sym kind ∙ peeled.1) in
+      (k.0, k.1, k.2, peeled.0 ∙ ap (λ f. before ++ inner f) k.2 ∙ sym (append_assoc before (commands k.0) (commands k.1)))
 
-  pub peel_closure : (c : ℕ) → cs ≡ init ++ Closure c ∷ [] → Ends cs before e → (a : Expr) × (e ≡ closure c a) × Ends init before a
-  peel_closure c is ends =
-      let p = peel cs init before (Closure c) e is ends in
-      let k = is_closure c e p.1 in
-      (k.0, k.1, p.0 ∙ ap (λ f. before ++ inner f) k.1)
+  pub peel_product : (c : ℕ) → last ≡ Product c → (a : Expr) × (b : Expr) × (e ≡ product c a b) × Ends init (before ++ commands a) b
+  peel_product c kind =
+      let k = is_product c e (sym kind ∙ peeled.1) in
+      (k.0, k.1, k.2, peeled.0 ∙ ap (λ f. before ++ inner f) k.2 ∙ sym (append_assoc before (commands k.0) (commands k.1)))
 
-module _ (cs init : List PatternCommand) (room : ℕ) (ready : Ready cs room) where
-  pub small_last : (last : PatternCommand) → cs ≡ init ++ last ∷ [] → Small last
-  small_last last is = (all_split Small init (last ∷ []) (subst (AllByRecursion Small) is ready.small)).1.0
+  pub peel_closure : (c : ℕ) → last ≡ Closure c → (a : Expr) × (e ≡ closure c a) × Ends init before a
+  peel_closure c kind =
+      let k = is_closure c e (sym kind ∙ peeled.1) in
+      (k.0, k.1, peeled.0 ∙ ap (λ f. before ++ inner f) k.1)
 
-  small_front : (last : PatternCommand) → cs ≡ init ++ last ∷ [] → AllByRecursion Small init
-  small_front last is = (all_split Small init (last ∷ []) (subst (AllByRecursion Small) is ready.small)).0
+module _ (cs init : List PatternCommand) (last : PatternCommand) (room : ℕ) (ready : Ready cs room) (is : cs ≡ init ++ last ∷ []) where
+  both_small : AllByRecursion Small init × AllByRecursion Small (last ∷ [])
+  both_small = all_split Small init (last ∷ []) (subst (AllByRecursion Small) is ready.small)
 
-  pub ready_node : (c rank points : ℕ) → cs ≡ init ++ Node c rank points ∷ [] → (rank ≤ room) × ReadyParts init rank room (room - rank) (room - rank)
-  ready_node c rank points is =
-      let p = peel_node cs init ready.before ready.part c rank points is ready.ends in
-      let fits : length (parts_rows p.0) + rank ≤ room =
-      omega (arith, subst (λ f. length (child_rows f) ≤ room) p.1 ready.fits, length-append (parts_rows p.0) (root_rows p.0), root_rows_length p.0, p.2) in (
-        omega (arith, fits),
-        record {
-          parts = p.0;
-          before = ready.before;
-          all = p.2;
-          ends = p.3;
-          fits = omega (arith, fits);
-          behind = omega arith;
-          own_fit = omega (arith, fits);
-          small = small_front (Node c rank points) is;
-        },
-      )
+  pub small_last : (kind : PatternCommand) → last ≡ kind → Small kind
+  small_last kind same = subst Small same both_small.1.0
 
-  pub ready_sum : cs ≡ init ++ Sum ∷ [] → ReadyPair init room
-  ready_sum is =
-      let p = peel_sum cs init ready.before ready.part is ready.ends in
+  module _ (c rank points : ℕ) (kind : last ≡ Node c rank points) where
+    parts_of : (ps : Parts) × (ready.part ≡ node c points ps) × (count ps ≡ rank) × (init ≡ ready.before ++ parts_commands ps)
+    parts_of = peel_node cs init ready.before last ready.part is ready.ends c rank points kind
+
+    fits : length (parts_rows parts_of.0) + rank ≤ room
+    fits =
+        omega (
+          arith,
+          subst (λ f. length (child_rows f) ≤ room) parts_of.1 ready.fits,
+          length-append (parts_rows parts_of.0) (root_rows parts_of.0),
+          root_rows_length parts_of.0,
+          parts_of.2,
+        )
+
+    pub own_fits : rank ≤ room
+    own_fits = omega (arith, fits)
+
+    pub ready_node : (below own : ℕ) → below ≡ room - rank → own + (room - rank) ≡ room → ReadyParts init below own
+    ready_node below own front back = record {
+      parts = parts_of.0;
+      before = ready.before;
+      all = omega (arith, parts_of.2, back, fits);
+      ends = parts_of.3;
+      fits = omega (arith, fits, front);
+      small = both_small.0;
+    }
+
+  pub ready_sum : last ≡ Sum → ReadyPair init room
+  ready_sum kind =
+      let p = peel_sum cs init ready.before last ready.part is ready.ends kind in
       record {
         first = p.0;
         second = p.1;
         before = ready.before;
         ends = p.3;
         fits = omega (arith, subst (λ f. length (child_rows f) ≤ room) p.2 ready.fits, length-append (child_rows p.0) (child_rows p.1));
-        small = small_front Sum is;
+        small = both_small.0;
       }
 
-  pub ready_product : (c : ℕ) → cs ≡ init ++ Product c ∷ [] → ReadyPair init room
-  ready_product c is =
-      let p = peel_product cs init ready.before ready.part c is ready.ends in
+  pub ready_product : (c : ℕ) → last ≡ Product c → ReadyPair init room
+  ready_product c kind =
+      let p = peel_product cs init ready.before last ready.part is ready.ends c kind in
       record {
         first = p.0;
         second = p.1;
         before = ready.before;
         ends = p.3;
         fits = omega (arith, subst (λ f. length (child_rows f) ≤ room) p.2 ready.fits, product_length c p.0 p.1);
-        small = small_front (Product c) is;
+        small = both_small.0;
       }
 
-  pub ready_closure : (c : ℕ) → cs ≡ init ++ Closure c ∷ [] → Ready init room
-  ready_closure c is =
-      let p = peel_closure cs init ready.before ready.part c is ready.ends in
+  pub ready_closure : (c : ℕ) → last ≡ Closure c → Ready init room
+  ready_closure c kind =
+      let p = peel_closure cs init ready.before last ready.part is ready.ends c kind in
       record {
         part = p.0;
         before = ready.before;
         ends = p.2;
         fits = omega (arith, subst (λ f. length (child_rows f) ≤ room) p.1 ready.fits, length-map (child_rows p.0) (cut c (root_row (closure c p.0))));
-        small = small_front (Closure c) is;
+        small = both_small.0;
       }

@@ -1,21 +1,20 @@
 -- The links of a whole pattern: that its numbered commands are in range, that it has a number for each slot, and what
 -- the parts of the work come to. Assumes nothing.
 use Rattle.std.proofs.Common.{◌≡◌, ℕ, suc, ◌+◌, ◌-◌, ◌<◌, ◌≤◌, ltb, List, [], ◌∷◌, ◌++◌, length, take, drop, set, Ok, Err, sym, refl, ap, ◌∙◌, subst, append-nil, arith}
-use native.Mathlib.Nat.{sub-zero}
-use borrow.Rule.Slice.PartMut.{put_mid, post_of}
+use borrow.Rule.Slice.PartMut.{put_mid}
 use Rattle.std.proofs.ByRecursion.{All-append, All-push}
 use Rattle.std.proofs.lemmas.List.{length-append, length-map, drop_all}
 use Rattle.std.proofs.lemmas.Bool.{cond-true, cond-false, lt-ltb, le-ltb}
 use Rattle.std.specs.List.{AllByRecursion}
 use Rattle.format.specs.declared.command.PatternCommand.TheVariants.{Sum, Node, Product, Closure}
 use Rattle.format.specs.declared.entry.Entry.{Entry}
-use Rattle.pattern.specs.Expressions.{Expr, leaf, node, sum, product, closure, Parts, no_parts, ◌▸◌, count, commands, parts_commands, table}
+use Rattle.pattern.specs.Expressions.{Expr, leaf, node, sum, product, closure, Parts, no_parts, ◌▸◌, count, commands, parts_commands}
 use Rattle.pattern.specs.Judging.{Standing, table_judged}
 use Rattle.pattern.specs.Patterns.{Limits, TableOf}
 use Rattle.pattern.proofs.TableCompleting.{table_accepts}
 use Rattle.links.specs.declared.fault.LinkFault.TheVariants.{RowsMissing}
 use Rattle.links.specs.declared.part.Part.{Part}
-use Rattle.links.specs.Links.{linked, Linked, Unlinked}
+use Rattle.links.specs.Links.{linked, Linked}
 use Rattle.links.specs.Locality.{Operands}
 use Rattle.links.specs.Numbering.{numbered, named, rank_at}
 use Rattle.links.specs.Rows.{LinkRows, root_rows, child_rows, parts_rows, link_rows}
@@ -26,7 +25,7 @@ use Rattle.links.proofs.FewSlots.{few_slots}
 use Rattle.links.proofs.Labels.{fine_rises}
 use Rattle.links.proofs.NumberedFine.{numbered_fine}
 use Rattle.links.proofs.NumberedSlots.{slots_of, slots_of_parts, numbered_slots}
-use Rattle.links.proofs.NumberLoops.{under_length}
+use Rattle.links.proofs.Places.{under_length}
 use Rattle.links.proofs.NumberTurns.{table_known}
 use Rattle.links.proofs.Peeling.{product_length, root_rows_length}
 use Rattle.links.proofs.Rules.{Fine, FineParts}
@@ -114,11 +113,7 @@ module _ (entries : List Entry) (s : Standing) (t : TableOf entries s) (room : �
       let same : n ≡ k = is ∙ ap (λ ps. length (slots ps)) t.named in
       ap (linked room) judged_ok ∙ cond-false (ltb room k) (Err RowsMissing) (Ok k) (le-ltb room k (omega (arith, same))) ∙ ap Ok (sym same)
 
-  pub unlinked : (rows : List ℕ) (n : ℕ) → room ≡ length rows → n ≡ length (slots s.positions) → room < n → Unlinked entries rows rows RowsMissing
-  unlinked rows n long is h =
-      record { why = (t.pattern, t.limits, t.holds, omega (arith, long, is, ap (λ ps. length (slots ps)) t.named)); unchanged = refl }
-
-  pub whole_linked : (rows new : List ℕ) (n : ℕ) → n ≡ length (slots s.positions) → ((e : Expr) → Limits 512 e → entries ≡ table e → new ≡ link_rows (numbered e)) → Linked entries rows (new ++ post_of 0 (n - 0) rows) n
+  pub whole_linked : (rows new : List ℕ) (n : ℕ) → n ≡ length (slots s.positions) → new ≡ link_rows (numbered t.pattern) → Linked entries rows (new ++ drop n rows) n
   whole_linked rows new n is work = record {
     pattern = t.pattern;
     limits = t.limits;
@@ -126,6 +121,6 @@ module _ (entries : List Entry) (s : Standing) (t : TableOf entries s) (room : �
     alone = λ e h. table_known e t.pattern (sym h ∙ t.holds);
     number = is ∙ ap (λ ps. length (slots ps)) t.named;
     few = omega (arith, few_slots t.pattern t.limits, is, ap (λ ps. length (slots ps)) t.named);
-    written = ap (λ l. l ++ drop (n - 0) rows) (work t.pattern t.limits t.holds) ∙ ap (λ k. link_rows (numbered t.pattern) ++ drop k rows) (sub-zero n);
+    written = ap (λ l. l ++ drop n rows) work;
     exact = exact_rows t.pattern t.limits.operands;
   }

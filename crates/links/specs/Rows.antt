@@ -1,6 +1,7 @@
 -- Links as numbers, and the rules by which those of a numbered pattern follow from those of its parts.
 -- docs/PATTERNS.md has the rules in words. Assumes nothing.
-use Rattle.std.specs.Prelude.{◌≡◌, ℕ, ◌/◌, ◌%◌, ◌^◌, Bool, true, false, cond, ◌||◌, ◌↔◌, List, [], ◌∷◌, ◌++◌, map, length, replicate, ◌==◌, bit_or, bit_xor, refl}
+use Rattle.std.specs.Prelude.{◌≡◌, ℕ, ◌/◌, ◌%◌, ◌^◌, Bool, true, cond, ◌||◌, ◌↔◌, List, [], ◌∷◌, ◌++◌, map, length, replicate, ◌==◌, bit_or, bit_xor, refl}
+use Rattle.std.specs.List.{list_any}
 use Rattle.pattern.specs.Expressions.{Expr, leaf, node, sum, product, closure, Parts, no_parts, ◌▸◌}
 use Rattle.links.specs.Numbering.{numbered, sample}
 use Rattle.links.specs.Slots.{Slot, Link}
@@ -25,8 +26,7 @@ abbrev pub cut : ℕ → ℕ → ℕ → ℕ
 cut c instead row = cond (holds c row) (bit_or (bit_xor row (2 ^ c)) instead) row
 
 abbrev pub any_holds : ℕ → List ℕ → Bool
-any_holds c [] = false
-any_holds c (row ∷ rows) = holds c row || any_holds c rows
+any_holds c = list_any (holds c)
 
 -- The links of a product's second part are empty where it is never reached.
 abbrev pub kept : Bool → List ℕ → List ℕ

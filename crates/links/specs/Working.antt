@@ -4,9 +4,11 @@ use Rattle.std.specs.Prelude.{◌≡◌, ℕ, ◌+◌, ◌<◌, ◌≤◌, List,
 use Rattle.std.specs.List.{AllByRecursion}
 use Rattle.format.specs.declared.command.PatternCommand.{PatternCommand}
 use Rattle.format.specs.declared.command.PatternCommand.TheVariants.{Sum, Leaf, Node, Product, Closure}
-use Rattle.pattern.specs.Expressions.{Expr, Parts, count, commands, parts_commands}
+use Rattle.format.specs.declared.entry.Entry.{Entry}
+use Rattle.pattern.specs.Expressions.{Expr, Parts, count, commands, parts_commands, table}
+use Rattle.pattern.specs.Patterns.{Limits}
 use Rattle.links.specs.declared.part.Part.{Part}
-use Rattle.links.specs.Rows.{root_row, root_rows, child_rows, parts_rows}
+use Rattle.links.specs.Rows.{root_row, root_rows, child_rows, parts_rows, link_rows}
 
 -- A number has a bit for each position.
 abbrev pub Small : PatternCommand → Type 0
@@ -15,6 +17,19 @@ Small (Node b rank points) = b < 64
 Small Sum = Unit {0}
 Small (Product b) = b < 64
 Small (Closure b) = b < 64
+
+-- The entries are those of a pattern within the limits.
+pub record ReadyTable (entries : List Entry) : Type 0 where
+  pub pattern : Expr
+  pub limits : Limits 512 pattern
+  pub holds : entries ≡ table pattern
+
+-- The commands are those of a whole, with a number for each of its slots.
+pub record ReadyWhole (cs : List PatternCommand) (room : ℕ) : Type 0 where
+  pub whole : Expr
+  pub is : cs ≡ commands whole
+  pub fits : room ≡ length (link_rows whole)
+  pub small : AllByRecursion Small cs
 
 -- The commands end in those of the part e; `before` are the commands before it.
 abbrev pub Ends : List PatternCommand → List PatternCommand → Expr → Type 0
@@ -53,29 +68,19 @@ pub record WorkedPair (before : List PatternCommand) (a b : Expr) (old new : Lis
   pub second_roots : r.1.roots ≡ root_row b
   pub rows : new ≡ take r.0.slot old ++ (child_rows a ++ child_rows b)
 
--- The parts of a node, one behind the other: the slots of the parts end at `end`, and the node's own begin at `own`.
-pub record ReadyParts (cs : List PatternCommand) (number room end own : ℕ) : Type 0 where
+-- The parts of a node, one behind the other: their slots have numbers, and the node has a slot of its own for each.
+pub record ReadyParts (cs : List PatternCommand) (room own : ℕ) : Type 0 where
   pub parts : Parts
   pub before : List PatternCommand
-  pub all : count parts ≡ number
+  pub all : count parts ≡ own
   pub ends : cs ≡ before ++ parts_commands parts
-  pub fits : length (parts_rows parts) ≤ end
-  pub behind : end ≤ own
-  pub own_fit : own + number ≤ room
+  pub fits : length (parts_rows parts) ≤ room
   pub small : AllByRecursion Small cs
 
--- The numbers up to the end of the parts' slots, those up to the node's own slots, these, and those behind them.
-pub record Laid (rows : List ℕ) (end own number : ℕ) : Type 0 where
-  pub below : List ℕ
-  pub between : List ℕ
-  pub at : List ℕ
-  pub behind : List ℕ
-  pub whole : rows ≡ below ++ (between ++ (at ++ behind))
-  pub reach : length below ≡ end
-  pub space : end + length between ≡ own
-  pub wide : length at ≡ number
-
-pub record WorkedParts (before : List PatternCommand) (ps : Parts) (end own : ℕ) (old new : List ℕ) (r : ℕ × ℕ) : Type 0 where
+-- The links of the parts are worked: the first one begins behind `before`, their slots end where the numbers `below`
+-- end, the numbers before the first one's are as they were, and each of the node's own slots has the roots of its part.
+pub record WorkedParts (before : List PatternCommand) (ps : Parts) (old below own : List ℕ) (r : ℕ × ℕ) : Type 0 where
   pub start : r.0 ≡ length before
-  pub slot : r.1 + length (parts_rows ps) ≡ end
-  pub rows : (l : Laid old end own (count ps)) → new ≡ take r.1 l.below ++ (parts_rows ps ++ (l.between ++ (root_rows ps ++ l.behind)))
+  pub slot : r.1 + length (parts_rows ps) ≡ length old
+  pub rows : below ≡ take r.1 old ++ parts_rows ps
+  pub roots : own ≡ root_rows ps

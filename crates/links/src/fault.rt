@@ -3,9 +3,9 @@ ghost use Rattle.std.specs.Prelude.{◌≡◌};
 ghost use Rattle.links.specs.declared.fault.LinkFault.TheVariants.{Pattern};
 ghost use Rattle.links.specs.Faults.{link_number, link_place};
 
-use format::fault::PatternFault;
+use format::fault::{PatternFault, Refusal};
 
-#[derive(Clone, Copy, PartialEq)]
+#[derive(Clone, Copy, Debug, PartialEq, Eq)]
 pub enum LinkFault {
     // the table is no pattern's
     Pattern(PatternFault),
@@ -21,22 +21,26 @@ impl From<PatternFault> for LinkFault {
     }
 }
 
-impl LinkFault {
-    pub fn number(self) -> u8
-        ensures { result ≡ link_number self }
-    {
+impl Refusal for LinkFault {
+    ghost use Rattle.std.proofs.Common.{rules};
+
+    ghost number_of = { link_number };
+
+    ghost place_of = { link_place };
+
+    fn number(self) -> u8 {
         match self {
             LinkFault::Pattern(fault) => fault.number(),
             LinkFault::RowsMissing => 9,
         }
     }
 
-    pub fn place(self) -> usize
-        ensures { result ≡ link_place self }
-    {
+    fn place(self) -> usize {
         match self {
             LinkFault::Pattern(fault) => fault.place(),
             LinkFault::RowsMissing => 0,
         }
     }
+
+    ghost seventeen = { Prim.search rules };
 }

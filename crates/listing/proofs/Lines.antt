@@ -1,7 +1,7 @@
 -- Lines are added one after another: a turn of the loop over the commands, and of that over the positions.
 -- Assumes nothing.
 use Rattle.std.proofs.Common.{◌≡◌, ℕ, ◌+◌, ◌*◌, ◌<◌, ◌≤◌, List, [], ◌∷◌, ◌++◌, map, length, get_or, take, sym, refl, ap, ◌∙◌, append_assoc, append-nil, add-zero, add_assoc, arith}
-use Rattle.std.proofs.lemmas.List.{take_more, take_all, map_push, length_push, length-append, length-map, length-take-le, get_or-map}
+use Rattle.std.proofs.lemmas.List.{take_more, map_push, length_push, length-append, length-map, length-take-le, get_or-map}
 use Rattle.std.proofs.ByRecursion.{All-get_or}
 use Rattle.std.specs.List.{AllByRecursion}
 use Rattle.format.specs.declared.command.PatternCommand.{PatternCommand}
@@ -13,7 +13,6 @@ use Rattle.format.specs.Entries.{entry_of}
 use Rattle.pattern.specs.Expressions.{spell}
 use Rattle.pattern.proofs.Accepting.{spell_push}
 use Rattle.pattern.proofs.Completing.{spell_few}
-use Rattle.listing.specs.Listings.{Lines}
 use Rattle.listing.specs.Text.{command_line, command_lines, position_line, position_lines}
 
 -- one more line at the end
@@ -39,8 +38,8 @@ none_yet entries before =
     record { commands = []; number = refl; stand_for = refl; spelled = refl; added = sym (append-nil before) }
 
 module _ {entries : List Entry} {i : ℕ} {before text : List ℕ} {at : ℕ} (so : Sofar entries i before text at) where
-  pub one_more : (d : Entry) (c : PatternCommand) (line longer : List ℕ) (w : ℕ) → i < length entries → get_or entries i d ≡ entry_of c → line ≡ command_line at c → longer ≡ text ++ line → w ≡ length (pattern_bytes c) → Sofar entries (i + 1) before longer (at + w)
-  one_more d c line longer w h is told long wide =
+  pub one_more : (d : Entry) (c : PatternCommand) (longer : List ℕ) (w : ℕ) → i < length entries → get_or entries i d ≡ entry_of c → longer ≡ text ++ command_line at c → w ≡ length (pattern_bytes c) → Sofar entries (i + 1) before longer (at + w)
+  one_more d c longer w h is long wide =
       let cs = so.commands in
       record {
         commands = cs ++ c ∷ [];
@@ -48,8 +47,8 @@ module _ {entries : List Entry} {i : ℕ} {before text : List ℕ} {at : ℕ} (s
         stand_for = take_more entries i d h ∙ ap (λ l. l ++ get_or entries i d ∷ []) so.stand_for ∙ ap (λ e. map entry_of cs ++ e ∷ []) is ∙ sym (map_push entry_of cs c);
         spelled = ap (λ n. at + n) wide ∙ ap (λ n. n + length (pattern_bytes c)) so.spelled ∙ sym (ap length (spell_push cs c) ∙ length-append (spell cs) (pattern_bytes c));
         added =
-            long ∙ ap (λ l. l ++ line) so.added ∙ append_assoc before (command_lines 0 cs) line
-            ∙ ap (λ l. before ++ (command_lines 0 cs ++ l)) (told ∙ ap (λ n. command_line n c) so.spelled)
+            long ∙ ap (λ l. l ++ command_line at c) so.added ∙ append_assoc before (command_lines 0 cs) (command_line at c)
+            ∙ ap (λ n. before ++ (command_lines 0 cs ++ command_line n c)) so.spelled
             ∙ ap (λ l. before ++ l) (sym (lines_push 0 cs c ∙ ap (λ n. command_lines 0 cs ++ command_line n c) (zero_more (length (spell cs)))));
       }
     where
@@ -59,15 +58,6 @@ module _ {entries : List Entry} {i : ℕ} {before text : List ℕ} {at : ℕ} (s
   -- the commands have few bytes
   pub short : at ≤ 5 * i
   short = omega (arith, so.spelled, spell_few so.commands, so.number)
-
-  pub all_lines : length entries ≤ i → Lines entries before text at
-  all_lines h =
-      record {
-        commands = so.commands;
-        stand_for = sym (take_all i entries h) ∙ so.stand_for;
-        spelled = so.spelled;
-        added = so.added;
-      }
 
 -- an entry of no command
 pub no_lines : (entries : List Entry) (i : ℕ) (d : Entry) → i < length entries → ((c : PatternCommand) → PatternOperands c → get_or entries i d ≡ entry_of c → ⊥) → (cs : List PatternCommand) → AllByRecursion PatternOperands cs → entries ≡ map entry_of cs → ⊥
@@ -84,12 +74,12 @@ positions_push n (q ∷ ps) p =
     ∙ sym (append_assoc (position_line n q) (position_lines (n + 1) ps) (position_line (n + 1 + length ps) p))
     ∙ ap (λ k. (position_line n q ++ position_lines (n + 1) ps) ++ position_line k p) (omega arith)
 
-pub position_more : (ps : List Position) (i : ℕ) (d : Position) (before text line longer : List ℕ) → i < length ps → text ≡ before ++ position_lines 0 (take i ps) → line ≡ position_line i (get_or ps i d) → longer ≡ text ++ line → longer ≡ before ++ position_lines 0 (take (i + 1) ps)
-position_more ps i d before text line longer h so told long =
+pub position_more : (before : List ℕ) (ps : List Position) (i : ℕ) (d : Position) → i < length ps → (before ++ position_lines 0 (take i ps)) ++ position_line i (get_or ps i d) ≡ before ++ position_lines 0 (take (i + 1) ps)
+position_more before ps i d h =
     let front = take i ps in
     let number : i ≡ 0 + length front = omega (arith, length_front) in
-    long ∙ ap (λ l. l ++ line) so ∙ append_assoc before (position_lines 0 front) line
-    ∙ ap (λ l. before ++ (position_lines 0 front ++ l)) (told ∙ ap (λ n. position_line n (get_or ps i d)) number)
+    append_assoc before (position_lines 0 front) (position_line i (get_or ps i d))
+    ∙ ap (λ n. before ++ (position_lines 0 front ++ position_line n (get_or ps i d))) number
     ∙ ap (λ l. before ++ l) (sym (positions_push 0 front (get_or ps i d)))
     ∙ ap (λ l. before ++ position_lines 0 l) (sym (take_more ps i d h))
   where

@@ -7,7 +7,7 @@ ghost use Rattle.listing.specs.declared.fault.Fault.TheVariants.{Pattern, NoMemo
 use format::fault::{ByteFault, PatternFault};
 use std::alloc::AllocError;
 
-#[derive(Clone, Copy)]
+#[derive(Clone, Copy, Debug, PartialEq, Eq)]
 pub enum Fault {
     // the pattern file is refused
     Pattern(PatternFault),
@@ -23,6 +23,7 @@ impl From<PatternFault> for Fault {
     }
 }
 
+// Both steps at once, since `?` takes one.
 impl From<ByteFault> for Fault {
     ghost from_gives = { λ b f. f ≡ Pattern (Bytes b) };
 

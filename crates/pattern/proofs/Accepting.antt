@@ -14,7 +14,7 @@ use Rattle.pattern.specs.Expressions.{spell}
 use Rattle.pattern.specs.Judging.{Standing, start, after, standing_from, standing, admission, checked, next_command, ending, judged_from, judged}
 use Rattle.pattern.specs.Patterns.{InOrderFrom, InOrder, Met, FirstFault}
 use Rattle.format.specs.Reading.{then, pattern_first, pattern_command_at}
-use Rattle.format.proofs.Decoding.{readable}
+use Rattle.format.proofs.StandsAt.{readable}
 use Rattle.format.proofs.FileCommands.{pattern_there}
 use Rattle.pattern.proofs.FirstFaults.{first_fault}
 use Rattle.format.proofs.Spelling.{AllBytes, ways, never, inside}

@@ -1,7 +1,7 @@
--- A loop that writes f of each element of one list over the front of another: one turn, and the end.
+-- A loop that writes f of each element of one list over the front of another: one turn.
 -- Assumes nothing.
 use Rattle.std.proofs.Common.{◌≡◌, ℕ, ◌+◌, ◌<◌, ◌≤◌, List, [], ◌∷◌, ◌++◌, map, length, get_or, take, drop, set, sym, ap, ◌∙◌, append_assoc, arith}
-use Rattle.std.proofs.lemmas.List.{drop_more, set_at, map_more, length-map, length-take-le, take_all}
+use Rattle.std.proofs.lemmas.List.{drop_more, set_at, map_more, length-map, length-take-le}
 
 module _ {X Y : Type 0} (f : X → Y) (xs : List X) (ys : List Y) (fits : length xs ≤ length ys) where
   pub filled_more : (i : ℕ) (d : X) (e : Y) → i < length xs → set (map f (take i xs) ++ drop i ys) i (f (get_or xs i d)) ≡ map f (take (i + 1) xs) ++ drop (i + 1) ys
@@ -11,7 +11,3 @@ module _ {X Y : Type 0} (f : X → Y) (xs : List X) (ys : List Y) (fits : length
       ∙ set_at (map f (take i xs)) (get_or ys i e) (drop (i + 1) ys) (f (get_or xs i d)) i before
       ∙ sym (append_assoc (map f (take i xs)) (f (get_or xs i d) ∷ []) (drop (i + 1) ys))
       ∙ ap (λ l. l ++ drop (i + 1) ys) (sym (map_more f xs i d h))
-
-  pub filled_all : (i : ℕ) → i ≡ length xs → map f (take i xs) ++ drop i ys ≡ map f xs ++ drop (length xs) ys
-  filled_all i h =
-      ap (λ n. map f (take n xs) ++ drop n ys) h ∙ ap (λ l. map f l ++ drop (length xs) ys) (take_all (length xs) xs (omega arith))

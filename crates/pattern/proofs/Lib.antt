@@ -1,5 +1,3 @@
-pub mod Constants
-pub mod Room
 pub mod Stack
 pub mod Distinct
 pub mod Turns

@@ -1,8 +1,8 @@
 -- Judging a file, one command after another: what one turn does to `judged_from`, and what is left to judge at
 -- each turn answers for the whole file. Assumes nothing.
-use Rattle.std.proofs.Common.{◌≡◌, ℕ, zero, suc, ◌+◌, ◌-◌, ◌<◌, ◌≤◌, min, eqb, leb, List, [], ◌∷◌, ◌++◌, length, take, set, Ok, Err, Result, sym, refl, ap, ◌∙◌, add-zero, add-one, arith, eq-eqb, ne_eqb, le-leb}
+use Rattle.std.proofs.Common.{◌≡◌, ℕ, zero, suc, ◌+◌, ◌-◌, ◌<◌, ◌≤◌, min, eqb, leb, List, [], ◌∷◌, ◌++◌, length, Ok, Err, Result, sym, refl, ap, ◌∙◌, add-zero, add-one, arith, eq-eqb, ne_eqb, le-leb}
 use borrow.Author.Tests.{lt-leb}
-use Rattle.std.proofs.lemmas.List.{take_more_set, length-set, length-drop, length-append}
+use Rattle.std.proofs.lemmas.List.{length_push, length-drop, length-append}
 use Rattle.std.proofs.lemmas.Bool.{cond-true, cond-false}
 use Rattle.format.specs.declared.command.PatternCommand.{PatternCommand}
 use Rattle.format.specs.declared.fault.ByteFault.{ByteFault}
@@ -60,64 +60,64 @@ moved file at c rest h s =
     let long = sym (length-drop at file) ∙ ap length s.here ∙ length-append (pattern_bytes c) rest in
     (omega (arith, long), omega (arith, long, pattern_some c))
 
--- How far the judging of a file has come.
-pub record Sofar (room : ℕ) (file : List ℕ) (commands : List PatternCommand) (count : ℕ) (judge : Judge) (at : ℕ) : Type 0 where
-  pub table : judge.free + count ≡ min room 512
-  pub amounts : stands judge ≡ standing (take count commands)
-  pub left : judged room file ≡ judged_from judge.free file (take count commands) at
-  pub scratch : length commands ≡ 512
-  pub within : at ≤ length file
+-- where what is left of a file begins
+abbrev pub place : List ℕ → List ℕ → ℕ
+place file rest = length file - length rest
 
-pub none_yet : (room : ℕ) (file : List ℕ) (commands : List PatternCommand) (judge : Judge) → length commands ≡ 512 → stands judge ≡ start → judge.free ≡ min room 512 → Sofar room file commands 0 judge 0
-none_yet room file commands judge long s f =
+-- How far the judging of a file has come: the commands `before` are judged, and `rest` is left.
+pub record Sofar (room : ℕ) (file : List ℕ) (before : List PatternCommand) (judge : Judge) (rest : List ℕ) : Type 0 where
+  pub table : judge.free + length before ≡ min room 512
+  pub amounts : stands judge ≡ standing before
+  pub left : judged room file ≡ judged_from judge.free file before (place file rest)
+  pub within : length rest ≤ length file
+
+pub none_yet : (room : ℕ) (file : List ℕ) (before : List PatternCommand) (judge : Judge) → before ≡ [] → stands judge ≡ start → judge.free ≡ min room 512 → Sofar room file before judge file
+none_yet room file before judge none s f =
+    let front : 0 ≡ place file file = omega arith in
     record {
-      table = add-zero judge.free ∙ f;
-      amounts = s;
-      left = ap (λ n. judged_from n file [] 0) (sym f);
-      scratch = long;
+      table = ap (λ l. judge.free + length l) none ∙ add-zero judge.free ∙ f;
+      amounts = s ∙ ap standing (sym none);
+      left = ap (λ n. judged_from n file [] 0) (sym f) ∙ ap (λ l. judged_from judge.free file l 0) (sym none) ∙ ap (judged_from judge.free file before) front;
       within = omega arith;
     }
 
-module _ {room : ℕ} {file : List ℕ} {commands : List PatternCommand} {count : ℕ} {judge : Judge} {at : ℕ} (so : Sofar room file commands count judge at) where
-  pub bad_bytes : (f : ByteFault) → at < length file → pattern_command_at file at ≡ Err f → judged room file ≡ Err (Bytes f)
-  bad_bytes f h e = so.left ∙ judged_bytes judge.free file (take count commands) at h f e
+module _ {room : ℕ} {file : List ℕ} {before : List PatternCommand} {judge : Judge} {rest : List ℕ} (so : Sofar room file before judge rest) where
+  -- something is left
+  inside : 0 < length rest → place file rest < length file
+  inside h = omega (arith, so.within)
 
-  pub bad_command : (c : PatternCommand) (f : PatternFault) → at < length file → pattern_command_at file at ≡ Ok c → admission judge.free at (stands judge) c ≡ Err f → judged room file ≡ Err f
+  pub bad_bytes : (f : ByteFault) → 0 < length rest → pattern_command_at file (place file rest) ≡ Err f → judged room file ≡ Err (Bytes f)
+  bad_bytes f h e = so.left ∙ judged_bytes judge.free file before (place file rest) (inside h) f e
+
+  pub bad_command : (c : PatternCommand) (f : PatternFault) → 0 < length rest → pattern_command_at file (place file rest) ≡ Ok c → admission judge.free (place file rest) (stands judge) c ≡ Err f → judged room file ≡ Err f
   bad_command c f h e r =
       so.left
-      ∙ judged_refused judge.free file (take count commands) at h c f e (ap (λ s. admission judge.free at s c) (sym so.amounts) ∙ r)
+      ∙ judged_refused judge.free file before (place file rest) (inside h) c f e (ap (λ s. admission judge.free (place file rest) s c) (sym so.amounts) ∙ r)
 
-  pub one_more : (c : PatternCommand) (rest : List ℕ) (next : Judge) → at < length file → pattern_command_at file at ≡ Ok c → StandsAt pattern_bytes PatternOperands file at c rest → admission judge.free at (stands judge) c ≡ Ok c → stands next ≡ after (stands judge) c → judge.free ≡ next.free + 1 → Sofar room file (set commands count c) (count + 1) next (length file - length rest)
-  one_more c rest next h e s r a f =
-      let grown = take_more_set commands count c (omega (arith, so.table, so.scratch, f, min_most room)) in
-      let place = moved file at c rest h s in
+  pub one_more : (c : PatternCommand) (behind : List ℕ) (next : Judge) (now : List PatternCommand) → 0 < length rest → pattern_command_at file (place file rest) ≡ Ok c → StandsAt pattern_bytes PatternOperands file (place file rest) c behind → admission judge.free (place file rest) (stands judge) c ≡ Ok c → stands next ≡ after (stands judge) c → judge.free ≡ next.free + 1 → now ≡ before ++ c ∷ [] → Sofar room file now next behind
+  one_more c behind next now h e s r a f grown =
+      let moves = moved file (place file rest) c behind (inside h) s in
       record {
-        table = omega (arith, so.table, f);
-        amounts = a ∙ ap (λ s. after s c) so.amounts ∙ sym (ap standing grown ∙ standing_push start (take count commands) c);
+        table = omega (arith, so.table, f, ap length grown ∙ length_push before c);
+        amounts = a ∙ ap (λ s. after s c) so.amounts ∙ sym (ap standing grown ∙ standing_push start before c);
         left =
             so.left
-            ∙ judged_more judge.free file (take count commands) at h c next.free e (ap (λ s. admission judge.free at s c) (sym so.amounts) ∙ r) (f ∙ add-one next.free)
-            ∙ ap (λ l. judged_from next.free file l (at + length (pattern_bytes c))) (sym grown)
-            ∙ ap (judged_from next.free file (take (count + 1) (set commands count c))) (sym place.0);
-        scratch = length-set commands count c ∙ so.scratch;
-        within = omega arith;
+            ∙ judged_more judge.free file before (place file rest) (inside h) c next.free e (ap (λ s. admission judge.free (place file rest) s c) (sym so.amounts) ∙ r) (f ∙ add-one next.free)
+            ∙ ap (λ l. judged_from next.free file l (place file rest + length (pattern_bytes c))) (sym grown)
+            ∙ ap (judged_from next.free file now) (sym moves.0);
+        within = omega (arith, moves.1);
       }
-    where
-      min_most : (n : ℕ) → min n 512 ≤ 512
-      min_most n = omega arith
 
-  -- no more commands than entries
-  pub few : count ≤ min room 512
-  few = omega (arith, so.table)
-
-  pub whole : length file ≤ at → (stands judge).pending ≡ 1 → judged room file ≡ Ok (take count commands)
+  pub whole : length rest ≡ 0 → (stands judge).pending ≡ 1 → judged room file ≡ Ok before
   whole h p =
-      so.left ∙ judged_end judge.free file (take count commands) at h
-      ∙ cond-true (eqb (standing (take count commands)).pending 1) _ _ (eq-eqb _ 1 (ap (λ (s : Standing). s.pending) (sym so.amounts) ∙ p))
+      so.left ∙ judged_end judge.free file before (place file rest) (omega (arith, h))
+      ∙ cond-true (eqb (standing before).pending 1) _ _ (eq-eqb _ 1 (ap (λ (s : Standing). s.pending) (sym so.amounts) ∙ p))
 
-  pub not_whole : (f : PatternFault) → length file ≤ at → ((stands judge).pending ≡ 1 → ⊥) → f ≡ NotOnePart at (stands judge).pending → judged room file ≡ Err f
+  pub not_whole : (f : PatternFault) → length rest ≡ 0 → ((stands judge).pending ≡ 1 → ⊥) → f ≡ NotOnePart (length file) (stands judge).pending → judged room file ≡ Err f
   not_whole f h p is =
-      so.left ∙ judged_end judge.free file (take count commands) at h
-      ∙ cond-false (eqb (standing (take count commands)).pending 1) _ _ (ne_eqb _ 1 (λ q. p (ap (λ (s : Standing). s.pending) so.amounts ∙ q)))
-      ∙ ap (λ (s : Standing). Err (NotOnePart at s.pending)) (sym so.amounts)
+      let end : place file rest ≡ length file = omega (arith, h) in
+      so.left ∙ judged_end judge.free file before (place file rest) (omega (arith, h))
+      ∙ cond-false (eqb (standing before).pending 1) _ _ (ne_eqb _ 1 (λ q. p (ap (λ (s : Standing). s.pending) so.amounts ∙ q)))
+      ∙ ap (λ (s : Standing). Err (NotOnePart (place file rest) s.pending)) (sym so.amounts)
+      ∙ ap (λ at. Err (NotOnePart at (stands judge).pending)) end
       ∙ ap Err (sym is)

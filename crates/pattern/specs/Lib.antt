@@ -5,3 +5,4 @@ pub mod Refusals
 pub mod Patterns
 pub mod Listed
 pub mod Stands
+pub mod Words

@@ -1,7 +1,8 @@
 -- The positions that the commands of a pattern name. Each node command is a position of its own; each
 -- different constant, which a leaf, a product or a closure names, is one. They are numbered from 0 in the
 -- order of first naming. Assumes nothing.
-use Rattle.std.specs.Prelude.{◌≡◌, ℕ, Bool, false, cond, ◌&&◌, ◌||◌, List, [], ◌∷◌, ◌++◌, ◌==◌, refl}
+use Rattle.std.specs.Prelude.{◌≡◌, ℕ, Bool, cond, ◌&&◌, List, [], ◌∷◌, ◌++◌, ◌==◌, refl}
+use Rattle.std.specs.List.{list_any}
 use Rattle.format.specs.declared.command.PatternCommand.{PatternCommand}
 use Rattle.format.specs.declared.command.PatternCommand.TheVariants.{Sum, Leaf, Node, Product, Closure}
 use Rattle.pattern.specs.declared.position.Position.{Position}
@@ -19,8 +20,7 @@ abbrev pub is_constant : ℕ → Position → Bool
 is_constant code p = p.rank == 0 && p.code == code
 
 abbrev pub has_constant : ℕ → List Position → Bool
-has_constant code [] = false
-has_constant code (p ∷ ps) = is_constant code p || has_constant code ps
+has_constant code ps = list_any (is_constant code) ps
 
 -- The position that naming a constant adds: none where it is there already.
 abbrev pub new_constant : ℕ → List Position → List Position

@@ -6,3 +6,4 @@ pub mod position;
 mod positions;
 pub mod read;
 pub mod table;
+mod words;

@@ -1,13 +1,15 @@
 // Reading a pattern file into the caller's table: one pass judges the whole file, and only then is the table
 // filled, so that a refused file leaves it as it was.
-ghost use Rattle.std.specs.Prelude.{◌≡◌, ◌≤◌, min, ◌++◌, map, length, take, drop, Ok, Err, MatchResult};
+ghost use Rattle.std.specs.Prelude.{◌≡◌, ◌≤◌, ◌++◌, map, length, drop, IfOk, Ok, Err, MatchResult};
+ghost use Rattle.arrayvec.specs.ArrayVec.{array_vec_len};
 ghost use Rattle.format.specs.Entries.{entry_of};
 ghost use Rattle.pattern.specs.Expressions.{Expr, encode};
 ghost use Rattle.pattern.specs.Judging.{judged};
 ghost use Rattle.pattern.specs.Patterns.{Accepted, Refused, counted, filled_by};
 
 use crate::judge::{Judge, MAX_COMMANDS};
-use format::bytes::pattern_command;
+use arrayvec::ArrayVec;
+use format::bytes::command_at;
 use format::command::PatternCommand;
 use format::entry::Entry;
 use format::fault::PatternFault;
@@ -17,49 +19,46 @@ use format::fault::PatternFault;
 pub fn read_pattern(file: &[u8], table: &mut [Entry]) -> Result<usize, PatternFault>
     ensures answer { result ≡ counted (judged (length table.old) file.now) }
     ensures memory { table.new ≡ filled_by (judged (length table.old) file.now) table.old }
-    ensures law { MatchResult result (Accepted file.now table.old table.new) (Refused (length table.old) file.now) }
+    ensures law { MatchResult result
+        (Accepted file.now table.old table.new)
+        (Refused (length table.old) file.now) }
     ensures one_meaning { (e f : Expr) → encode e ≡ encode f → e ≡ f }
 {
-    let mut commands = [PatternCommand::Sum; MAX_COMMANDS];
-    read_by(file, table, &mut commands)
+    judge_and_fill(file, table)
 }
 
-// The same with memory for the commands.
-fn read_by(
-    file: &[u8],
-    table: &mut [Entry],
-    commands: &mut [PatternCommand],
-) -> Result<usize, PatternFault>
-    requires { length commands.old ≡ 512 }
+// The same, told by what the file is judged to be.
+fn judge_and_fill(file: &[u8], table: &mut [Entry]) -> Result<usize, PatternFault>
     ensures answer { result ≡ counted (judged (length table.old) file.now) }
     ensures memory { table.new ≡ filled_by (judged (length table.old) file.now) table.old }
 {
-    let count = judge_file(file, table.len(), commands)?;
-    fill(&commands[0..count], table);
-    Ok(count)
+    let commands = judge_file(file, table.len())?;
+    fill(&commands, table);
+    Ok(commands.len())
 }
 
 // All commands of the file, in order, or its first fault.
 fn judge_file(
     file: &[u8],
     room: usize,
-    commands: &mut [PatternCommand],
-) -> Result<usize, PatternFault>
-    requires { length commands.old ≡ 512 }
-    ensures { MatchResult result (λ n. (judged room file.now ≡ Ok (take n commands.new)) × (n ≤ min room 512)) (λ f. judged room file.now ≡ Err f) }
+) -> Result<ArrayVec<PatternCommand, MAX_COMMANDS>, PatternFault>
+    ensures answer { MatchResult result
+        (λ v. judged room file.now ≡ Ok v.items)
+        (λ f. judged room file.now ≡ Err f) }
+    ensures few { IfOk result (λ v. array_vec_len v ≤ room) }
 {
     let mut judge = Judge::new(room);
-    let mut at = 0;
-    let mut count = 0;
-    while at < file.len() {
-        let (command, rest) = pattern_command(file, at)?;
+    let mut commands = ArrayVec::new();
+    let mut rest = file;
+    while !rest.is_empty() {
+        let at = file.len() - rest.len();
+        let (command, behind) = command_at(file, at)?;
         judge.admit(command, at)?;
-        commands[count] = command;
-        count += 1;
-        at = file.len() - rest.len();
+        commands.push(command);
+        rest = behind;
     }
-    judge.finish(at)?;
-    Ok(count)
+    judge.finish(file.len())?;
+    Ok(commands)
 }
 
 // Writes the entry of each command to the front of the table.
@@ -67,7 +66,8 @@ fn fill(commands: &[PatternCommand], table: &mut [Entry])
     requires { length commands.now ≤ length table.old }
     ensures { table.new ≡ map entry_of commands.now ++ drop (length commands.now) table.old }
 {
+    // By index: of what a loop writes through `iter_mut().zip(..)` nothing is known.
     for (i, command) in commands.iter().enumerate() {
-        table[i] = command.entry();
+        table[i] = Entry::from(*command);
     }
 }

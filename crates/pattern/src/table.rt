@@ -12,7 +12,9 @@ use format::fault::PatternFault;
 
 // What the commands of the table amount to.
 pub fn judge_table(table: &[Entry]) -> Result<Judge, PatternFault>
-    ensures answer { MatchResult result (λ j. (cs : List PatternCommand) × (table_judged table.now ≡ Ok cs) × (stands j ≡ standing cs)) (λ f. table_judged table.now ≡ Err f) }
+    ensures answer { MatchResult result
+        (λ j. (cs : List PatternCommand) × (table_judged table.now ≡ Ok cs) × (stands j ≡ standing cs))
+        (λ f. table_judged table.now ≡ Err f) }
     ensures law { MatchResult result (λ j. TableOf table.now (stands j)) (λ f. NoTable table.now) }
 {
     let mut judge = Judge::new(MAX_COMMANDS);

@@ -1,4 +1,5 @@
 // Reading pattern files into a table.
+use crate::refusals::told;
 use format::entry::Entry;
 use format::fault::PatternFault;
 use pattern::read::read_pattern;
@@ -17,26 +18,10 @@ const SAMPLE: [u8; 19] = [
     0x4c, 0, 11, 0x4e, 0, 20, 1, 7, 0x4c, 0, 10, 0x4e, 0, 1, 2, 0, 0x2a, 0, 10,
 ];
 
-fn entry(kind: u8, code: u16, rank: u8, points: u8) -> Entry {
-    Entry {
-        kind,
-        code,
-        rank,
-        points,
-    }
-}
-
 // The file is refused with this number at this place, for a table of 512 entries.
 fn refused(rt: &impl Abort, file: &[u8], number: u8, place: usize, why: &str) -> Result<(), Fail> {
     let mut table = [FILLER; 512];
-    match read_pattern(file, &mut table) {
-        Ok(_) => Err(Fail::new("the file was accepted")),
-        Err(fault) => {
-            assert_eq!(rt; fault.number(), number, "{why}");
-            assert_eq!(rt; fault.place(), place, "{why}");
-            Ok(())
-        }
-    }
+    told(rt, read_pattern(file, &mut table).err(), number, place, why)
 }
 
 fn accepted(rt: &impl Abort, file: &[u8]) {
@@ -48,11 +33,11 @@ fn accepted(rt: &impl Abort, file: &[u8]) {
 fn sample_fills_the_table(rt: HostRuntime) {
     let mut table = [FILLER; 7];
     assert!(rt; read_pattern(&SAMPLE, &mut table) == Ok(5));
-    assert!(rt; table[0] == entry(b'L', 11, 0, 0));
-    assert!(rt; table[1] == entry(b'N', 20, 1, 7));
-    assert!(rt; table[2] == entry(b'L', 10, 0, 0));
-    assert!(rt; table[3] == entry(b'N', 1, 2, 0));
-    assert!(rt; table[4] == entry(b'*', 10, 0, 0));
+    assert!(rt; table[0] == Entry::new(b'L', 11, 0, 0));
+    assert!(rt; table[1] == Entry::new(b'N', 20, 1, 7));
+    assert!(rt; table[2] == Entry::new(b'L', 10, 0, 0));
+    assert!(rt; table[3] == Entry::new(b'N', 1, 2, 0));
+    assert!(rt; table[4] == Entry::new(b'*', 10, 0, 0));
     assert!(rt; table[5] == FILLER, "later entries are untouched");
     assert!(rt; table[6] == FILLER);
 }
@@ -106,8 +91,8 @@ fn the_first_refusal_wins(rt: HostRuntime) -> Result<(), Fail> {
 
 #[test]
 fn truncated_at_every_byte(rt: HostRuntime) -> Result<(), Fail> {
-    for n in 0..19 {
-        let cut = &SAMPLE[0..n];
+    for n in 0..SAMPLE.len() {
+        let cut = &SAMPLE[..n];
         match n {
             0 => refused(&rt, cut, 6, 0, "other than one part")?,
             1..=2 => refused(&rt, cut, 2, 0, "operands are missing")?,

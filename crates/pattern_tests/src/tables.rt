@@ -1,4 +1,5 @@
 // Judging tables that may have come from anywhere.
+use crate::refusals::told;
 use format::command::PatternCommand;
 use format::entry::Entry;
 use format::fault::ByteFault;
@@ -28,15 +29,6 @@ const SUM: Entry = Entry {
     points: 0,
 };
 
-fn entry(kind: u8, code: u16, rank: u8, points: u8) -> Entry {
-    Entry {
-        kind,
-        code,
-        rank,
-        points,
-    }
-}
-
 // The table is refused with this number at this place.
 fn refused(
     rt: &impl Abort,
@@ -45,14 +37,7 @@ fn refused(
     place: usize,
     why: &str,
 ) -> Result<(), Fail> {
-    match judge_table(table) {
-        Ok(_) => Err(Fail::new("the table was accepted")),
-        Err(fault) => {
-            assert_eq!(rt; fault.number(), number, "{why}");
-            assert_eq!(rt; fault.place(), place, "{why}");
-            Ok(())
-        }
-    }
+    told(rt, judge_table(table).err(), number, place, why)
 }
 
 #[test]
@@ -68,45 +53,36 @@ fn entries_stand_for_commands(rt: HostRuntime) {
     );
     assert!(rt; SUM.command(0) == Ok(PatternCommand::Sum));
     assert!(rt;
-        entry(b'L', 0, 0, 1).command(3) == Err(ByteFault::NoCommand { at: 3 }),
+        Entry::new(b'L', 0, 0, 1).command(3) == Err(ByteFault::NoCommand { at: 3 }),
         "1 before 3"
     );
-    assert!(rt; entry(b'+', 1, 0, 0).command(3) == Err(ByteFault::NoCommand { at: 3 }));
-    assert!(rt; entry(b'*', 1, 1, 0).command(3) == Err(ByteFault::NoCommand { at: 3 }));
+    assert!(rt; Entry::new(b'+', 1, 0, 0).command(3) == Err(ByteFault::NoCommand { at: 3 }));
+    assert!(rt; Entry::new(b'*', 1, 1, 0).command(3) == Err(ByteFault::NoCommand { at: 3 }));
     assert!(rt;
-        entry(b'N', 0, 0, 0).command(3) == Err(ByteFault::CodeZero { at: 3 }),
+        Entry::new(b'N', 0, 0, 0).command(3) == Err(ByteFault::CodeZero { at: 3 }),
         "3 before 4"
     );
-    assert!(rt; entry(b'N', 1, 0, 0).command(3) == Err(ByteFault::RankOutside { at: 3 }));
-    assert!(rt; entry(170, 1, 1, 1).command(3) == Err(ByteFault::NoCommand { at: 3 }));
+    assert!(rt; Entry::new(b'N', 1, 0, 0).command(3) == Err(ByteFault::RankOutside { at: 3 }));
+    assert!(rt; Entry::new(170, 1, 1, 1).command(3) == Err(ByteFault::NoCommand { at: 3 }));
 }
 
 #[test]
 fn a_constant_and_a_node_of_one_code(rt: HostRuntime) -> Result<(), Fail> {
-    match judge_table(&[LEAF, NODE, LEAF, SUM]) {
-        Ok(judge) => {
-            let positions = judge.positions();
-            assert!(rt; positions.len() == 2);
-            assert!(rt;
-                positions[0]
-                    == Position {
-                        code: 11,
-                        rank: 0,
-                        points: 0,
-                    }
-            );
-            assert!(rt;
-                positions[1]
-                    == Position {
-                        code: 11,
-                        rank: 1,
-                        points: 7,
-                    }
-            );
-            Ok(())
+    let Ok(judge) = judge_table(&[LEAF, NODE, LEAF, SUM]) else {
+        return Err(Fail::new("the table was refused"));
+    };
+    let positions = judge.positions();
+    assert_eq!(rt; positions.len(), 2);
+    assert_eq!(rt; positions[0], Position::constant(11));
+    assert_eq!(rt;
+        positions[1],
+        Position {
+            code: 11,
+            rank: 1,
+            points: 7,
         }
-        Err(_) => Err(Fail::new("the table was refused")),
-    }
+    );
+    Ok(())
 }
 
 #[test]
@@ -114,6 +90,6 @@ fn tables_that_no_pattern_gives(rt: HostRuntime) -> Result<(), Fail> {
     refused(&rt, &[], 6, 0, "other than one part")?;
     refused(&rt, &[LEAF, LEAF], 6, 2, "6 at the count of entries")?;
     refused(&rt, &[LEAF, SUM], 5, 1, "at the entry's number")?;
-    refused(&rt, &[LEAF, entry(b'+', 0, 0, 9)], 1, 1, "1 before 5")?;
+    refused(&rt, &[LEAF, Entry::new(b'+', 0, 0, 9)], 1, 1, "1 before 5")?;
     refused(&rt, &[LEAF; 513], 8, 512, "the 513th entry")
 }

@@ -1,1 +1,2 @@
-pub mod SlotLines
+pub mod Lines
+pub mod Naming

@@ -1,1 +1,2 @@
+pub mod SlotText
 pub mod Text

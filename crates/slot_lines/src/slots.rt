@@ -1,156 +1,90 @@
-// The slots of a pattern and their links, a line for each, by specs/Text.antt.
-ghost use Rattle.std.specs.Prelude.{◌≡◌, ◌+◌, ◌<◌, ◌≤◌, true, ◌++◌, length, drop, IfOk, string_bytes, OnOk, slice_index};
-ghost use Rattle.pattern.specs.Positions.{position as position_of};
-ghost use Rattle.links.specs.Rows.{holds};
-ghost use Rattle.links.specs.Slots.{root, child, slots, slots_under, child_slots};
-ghost use Rattle.slot_lines.specs.Text.{next_name, names as names_of, link_names, slot_words, slot_line, slot_lines};
+// The slots of a pattern and their links, a line for each, by specs/Text.antt: the root's line first, and then those of
+// each position's children. The lines go into a text of the caller's, so what memory they take is that text's.
+ghost use Rattle.std.specs.Prelude.{◌≡◌, ◌+◌, ◌≤◌, ◌++◌, length, drop, take, string_bytes, slice_get, OnOk};
+ghost use Rattle.links.specs.Slots.{slots, slots_under};
+ghost use Rattle.slot_lines.specs.Text.{slot_line, slot_lines};
+ghost use Rattle.slot_lines.specs.SlotText.{slot_text};
 
-use crate::words::position_name;
-use links::row::has;
+use crate::words::{Link, Named, Slot};
 use pattern::position::Position;
-use std::alloc::{AllocError, Global};
+use std::alloc::AllocError;
 
-// The name of one more position of a link, behind a comma unless it is the first.
-fn next_name(
-    heap: Global,
-    first: bool,
-    number: usize,
-    position: Position,
-) -> Result<String, AllocError>
-    ensures { IfOk result (λ s. string_bytes s ≡ next_name first number position) }
-{
-    let name = position_name(heap, number, position)?;
-    if first {
-        Ok(name)
-    } else {
-        format!(in heap; ", {name}")
-    }
+// The positions of a pattern, and the number of each slot's link. What a caller grants of them is kept here, so that no
+// method has to ask for it.
+#[derive(Clone, Copy)]
+struct Slots<'a> {
+    positions: &'a [Position],
+    rows: &'a [u64],
+    ghost few: { length positions.now ≤ 64 },
+    ghost matched: { length rows.now ≡ length (slots positions.now) },
 }
 
-// The names of the positions that a link holds.
-fn names(heap: Global, positions: &[Position], row: u64) -> Result<String, AllocError>
-    requires { length positions.now ≤ 64 }
-    ensures { IfOk result (λ s. string_bytes s ≡ names_of true 0 positions.now row) }
-{
-    let mut out = String::new(heap);
-    let mut first = true;
-    for (i, position) in positions.iter().enumerate() {
-        if has(row, i as u16) {
-            let name = next_name(heap, first, i, *position)?;
-            out.push_str(name.as_str())?;
-            first = false;
+impl Slots<'_> {
+    // Adds the line of one slot.
+    fn push_line(
+        &self,
+        out: &mut String,
+        number: usize,
+        slot: Slot,
+        row: u64,
+    ) -> Result<(), AllocError>
+        ensures { OnOk result (string_bytes out.new ≡ string_bytes out.old
+            ++ slot_line self.now.positions.now number (slot_text slot) row) }
+    {
+        let link = Link {
+            positions: self.positions,
+            row,
+        };
+        writeln!(out, "slot {number}: {slot}, link {row}: {link}")
+    }
+
+    // Adds the lines of one position's slots, of which the first has the number `first`.
+    #[tactic(auto, using(crate::proofs::Lines::line_steps))]
+    fn push_children(&self, out: &mut String, named: Named, first: usize) -> Result<(), AllocError>
+        requires known { slice_get self.now.positions.now named.number ≡ Some named.position }
+        requires numbered { first + named.position.rank ≤ length self.now.rows.now }
+        ensures { let rank = named.position.rank in
+            OnOk result (string_bytes out.new ≡ string_bytes out.old
+            ++ slot_lines self.now.positions.now first (slots_under named.number rank)
+            (take rank (drop first self.now.rows.now))) }
+    {
+        let end = first + usize::from(named.position.rank);
+        for (i, row) in self.rows[first..end].iter().enumerate() {
+            let slot = Slot::Child {
+                number: i + 1,
+                parent: named,
+            };
+            self.push_line(out, first + i, slot, *row)?;
         }
+        Ok(())
     }
-    Ok(out)
-}
 
-// The positions of a link, or that there are none.
-fn link_names(heap: Global, positions: &[Position], row: u64) -> Result<String, AllocError>
-    requires { length positions.now ≤ 64 }
-    ensures { IfOk result (λ s. string_bytes s ≡ link_names positions.now row) }
-{
-    if row == 0 {
-        String::from_str(heap, "none")
-    } else {
-        names(heap, positions, row)
+    // Adds the lines of all slots: the root's, and those of each position's slots in turn.
+    fn push_all(&self, out: &mut String) -> Result<(), AllocError>
+        ensures { OnOk result (string_bytes out.new ≡ string_bytes out.old
+            ++ slot_lines self.now.positions.now 0 (slots self.now.positions.now) self.now.rows.now) }
+    {
+        self.push_line(out, 0, Slot::Root, self.rows[0])?;
+        let mut first = 1;
+        for (number, position) in self.positions.iter().enumerate() {
+            let named = Named {
+                number,
+                position: *position,
+            };
+            self.push_children(out, named, first)?;
+            // The number is printed, so it is counted.
+            first += usize::from(position.rank);
+        }
+        Ok(())
     }
-}
-
-// The line of a slot.
-fn slot_line(
-    heap: Global,
-    positions: &[Position],
-    number: usize,
-    words: &str,
-    row: u64,
-) -> Result<String, AllocError>
-    requires { length positions.now ≤ 64 }
-    ensures { IfOk result (λ s. string_bytes s ≡ slot_line positions.now number words.now row) }
-{
-    let names = link_names(heap, positions, row)?;
-    format!(in heap; "slot {number}: {words}, link {row}: {names}\n")
-}
-
-// The slot of a position's child, in words. Children count from 1.
-fn child_words(
-    heap: Global,
-    positions: &[Position],
-    parent: usize,
-    number: usize,
-) -> Result<String, AllocError>
-    requires { parent < length positions.now }
-    ensures { IfOk result (λ s. string_bytes s ≡ slot_words positions.now (child parent number)) }
-{
-    let name = position_name(heap, parent, positions[parent])?;
-    format!(in heap; "child {number} of {name}")
-}
-
-// The line of the slot behind i others of its position, of which the first has the number `first`.
-fn child_line(
-    heap: Global,
-    positions: &[Position],
-    parent: usize,
-    rows: &[u64],
-    first: usize,
-    i: usize,
-) -> Result<String, AllocError>
-    requires { (length positions.now ≤ 64) × ((parent < length positions.now) × ((i < length rows.now) × (first + length rows.now ≤ 253))) }
-    ensures { IfOk result (λ s. string_bytes s ≡ slot_line positions.now (first + i) (slot_words positions.now (child parent (i + 1))) (slice_index rows.now i)) }
-{
-    let words = child_words(heap, positions, parent, i + 1)?;
-    slot_line(heap, positions, first + i, words.as_str(), rows[i])
-}
-
-// Adds the lines of one position's slots, of which the first has the number `first`.
-fn push_slots_under(
-    heap: Global,
-    out: &mut String,
-    positions: &[Position],
-    parent: usize,
-    rows: &[u64],
-    first: usize,
-) -> Result<(), AllocError>
-    requires { (length positions.now ≤ 64) × ((parent < length positions.now) × (first + length rows.now ≤ 253)) }
-    ensures { OnOk result (string_bytes out.new ≡ string_bytes out.old ++ slot_lines positions.now first (slots_under parent (length rows.now)) rows.now) }
-{
-    for i in 0..rows.len() {
-        let line = child_line(heap, positions, parent, rows, first, i)?;
-        out.push_str(line.as_str())?;
-    }
-    Ok(())
-}
-
-// Adds the lines of the slots behind the root.
-fn push_child_slots(
-    heap: Global,
-    out: &mut String,
-    positions: &[Position],
-    rows: &[u64],
-) -> Result<(), AllocError>
-    requires { (length positions.now ≤ 64) × ((length rows.now ≡ length (slots positions.now)) × (length rows.now ≤ 253)) }
-    ensures { OnOk result (string_bytes out.new ≡ string_bytes out.old ++ slot_lines positions.now 1 (child_slots 0 positions.now) (drop 1 rows.now)) }
-{
-    let mut at = 1;
-    for (i, position) in positions.iter().enumerate() {
-        let end = at + position.rank as usize;
-        push_slots_under(heap, out, positions, i, &rows[at..end], at)?;
-        at = end;
-    }
-    Ok(())
 }
 
 // Adds a line for each slot.
-pub fn push_slots(
-    heap: Global,
-    out: &mut String,
-    positions: &[Position],
-    rows: &[u64],
-) -> Result<(), AllocError>
-    requires { (length positions.now ≤ 64) × ((length rows.now ≡ length (slots positions.now)) × (length rows.now ≤ 253)) }
-    ensures { OnOk result (string_bytes out.new ≡ string_bytes out.old ++ slot_lines positions.now 0 (slots positions.now) rows.now) }
+pub fn push_slots(out: &mut String, positions: &[Position], rows: &[u64]) -> Result<(), AllocError>
+    requires few { length positions.now ≤ 64 }
+    requires matched { length rows.now ≡ length (slots positions.now) }
+    ensures { OnOk result (string_bytes out.new ≡ string_bytes out.old
+        ++ slot_lines positions.now 0 (slots positions.now) rows.now) }
 {
-    let line = slot_line(heap, positions, 0, "root", rows[0])?;
-    out.push_str(line.as_str())?;
-    push_child_slots(heap, out, positions, rows)?;
-    Ok(())
+    Slots { positions, rows }.push_all(out)
 }

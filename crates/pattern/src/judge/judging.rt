@@ -1,7 +1,7 @@
 // Judging one command after another, by specs/Judging.antt.
 ghost use Rattle.std.specs.Prelude.{◌≡◌, ◌+◌, min, Ok, Err, MatchResult, ◌≢◌};
 ghost use Rattle.std.specs.Option.{option_to_list};
-ghost use Rattle.format.specs.declared.command.PatternCommand.{PatternCommand as Command};
+ghost use Rattle.format.specs.declared.command.PatternCommand.{PatternCommand as Cmd};
 ghost use Rattle.format.specs.declared.fault.PatternFault.TheVariants.{NotOnePart};
 ghost use Rattle.format.specs.Commands.{PatternOperands};
 ghost use Rattle.format.specs.Entries.{entry_of, entry_command};
@@ -32,7 +32,11 @@ impl Judge {
 
     // The next command, which stands at the place `at`. One that is refused changes nothing.
     pub(crate) fn admit(&mut self, command: PatternCommand, at: usize) -> Result<(), PatternFault>
-        ensures { MatchResult result (λ _. (admission self.old.free at (stands self.old) command ≡ Ok command) × (stands self.new ≡ after (stands self.old) command) × (self.old.free ≡ self.new.free + 1)) (λ f. (admission self.old.free at (stands self.old) command ≡ Err f) × (self.new ≡ self.old)) }
+        ensures { MatchResult result
+            (λ _. (admission self.old.free at (stands self.old) command ≡ Ok command)
+            × (stands self.new ≡ after (stands self.old) command)
+            × (self.old.free ≡ self.new.free + 1))
+            (λ f. (admission self.old.free at (stands self.old) command ≡ Err f) × (self.new ≡ self.old)) }
     {
         let new = self.check(command, at)?;
         self.positions.add(new);
@@ -43,7 +47,15 @@ impl Judge {
 
     // The next entry of a table, whose number is `at`, by the command that it stands for.
     pub(crate) fn admit_entry(&mut self, entry: Entry, at: usize) -> Result<(), PatternFault>
-        ensures { MatchResult result (λ _. (c : Command) × PatternOperands c × (entry ≡ entry_of c) × (entry_command at entry ≡ Ok c) × (admission self.old.free at (stands self.old) c ≡ Ok c) × (stands self.new ≡ after (stands self.old) c) × (self.old.free ≡ self.new.free + 1)) (λ f. checked (entry_command at entry) (admission self.old.free at (stands self.old)) ≡ Err f) }
+        ensures { MatchResult result
+            (λ _. (c : Cmd)
+            × PatternOperands c
+            × (entry ≡ entry_of c)
+            × (entry_command at entry ≡ Ok c)
+            × (admission self.old.free at (stands self.old) c ≡ Ok c)
+            × (stands self.new ≡ after (stands self.old) c)
+            × (self.old.free ≡ self.new.free + 1))
+            (λ f. checked (entry_command at entry) (admission self.old.free at (stands self.old)) ≡ Err f) }
     {
         let command = entry.command(at)?;
         self.admit(command, at)
@@ -51,7 +63,10 @@ impl Judge {
 
     // The position that the command adds, or why it is not in order.
     fn check(&self, command: PatternCommand, at: usize) -> Result<Option<Position>, PatternFault>
-        ensures { MatchResult result (λ new. (admission self.now.free at (stands self.now) command ≡ Ok command) × (option_to_list new ≡ new_position command (listed self.now.positions))) (λ f. admission self.now.free at (stands self.now) command ≡ Err f) }
+        ensures { MatchResult result
+            (λ new. (admission self.now.free at (stands self.now) command ≡ Ok command)
+            × (option_to_list new ≡ new_position command (listed self.now.positions)))
+            (λ f. admission self.now.free at (stands self.now) command ≡ Err f) }
     {
         if self.pending < command.takes() {
             return Err(PatternFault::PartsMissing { at });
@@ -68,7 +83,9 @@ impl Judge {
 
     // The end of the pattern, at the place `at`: one part is pending.
     pub(crate) fn finish(&self, at: usize) -> Result<(), PatternFault>
-        ensures { MatchResult result (λ _. (stands self.now).pending ≡ 1) (λ f. ((stands self.now).pending ≢ 1) × (f ≡ NotOnePart at (stands self.now).pending)) }
+        ensures { MatchResult result
+            (λ _. (stands self.now).pending ≡ 1)
+            (λ f. ((stands self.now).pending ≢ 1) × (f ≡ NotOnePart at (stands self.now).pending)) }
     {
         if self.pending == 1 {
             return Ok(());

@@ -4,8 +4,8 @@ ghost use Rattle.std.specs.Option.{option_to_list};
 ghost use Rattle.pattern.specs.Positions.{has_constant, new_constant, new_position};
 ghost use Rattle.pattern.specs.Listed.{listed};
 
-use crate::position::Position;
-use crate::positions::{MAX_POSITIONS, Positions};
+use crate::position::{MAX_POSITIONS, Position};
+use crate::positions::Positions;
 use format::command::PatternCommand;
 
 impl Positions {
@@ -14,11 +14,7 @@ impl Positions {
         ensures { listed result ≡ [] }
     {
         Positions {
-            list: [Position {
-                code: 0,
-                rank: 0,
-                points: 0,
-            }; 64],
+            list: [Position::default(); MAX_POSITIONS],
             count: 0,
         }
     }
@@ -27,7 +23,7 @@ impl Positions {
     pub(crate) fn as_slice(&self) -> &[Position]
         ensures { result.now ≡ listed self.now }
     {
-        &self.list[0..self.count]
+        &self.list[..self.count]
     }
 
     // The position that the command would add.
@@ -37,9 +33,9 @@ impl Positions {
         match command {
             PatternCommand::Sum => None,
             PatternCommand::Node { code, rank, points } => Some(Position { code, rank, points }),
-            PatternCommand::Leaf { code } => self.new_constant(code),
-            PatternCommand::Product { code } => self.new_constant(code),
-            PatternCommand::Closure { code } => self.new_constant(code),
+            PatternCommand::Leaf { code }
+            | PatternCommand::Product { code }
+            | PatternCommand::Closure { code } => self.new_constant(code),
         }
     }
 
@@ -49,11 +45,7 @@ impl Positions {
         if has_constant(self.as_slice(), code) {
             None
         } else {
-            Some(Position {
-                code,
-                rank: 0,
-                points: 0,
-            })
+            Some(Position::constant(code))
         }
     }
 
@@ -80,10 +72,5 @@ impl Positions {
 fn has_constant(positions: &[Position], code: u16) -> bool
     ensures { result ≡ has_constant code positions.now }
 {
-    for p in positions {
-        if p.rank == 0 && p.code == code {
-            return true;
-        }
-    }
-    false
+    positions.iter().any(|p| p.is_constant(code))
 }

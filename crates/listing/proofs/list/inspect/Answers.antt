@@ -1,8 +1,7 @@
-use Rattle.std.proofs.Common.{sym, ap, ◌∙◌, subst}
+use Rattle.std.proofs.Common.{◌≡◌, sym, ap, ◌∙◌, subst, IfOk, string_bytes}
 use Rattle.pattern.specs.Judging.{judged}
 use Rattle.listing.specs.Listings.{Fails}
 use Rattle.listing.specs.Text.{told}
-use Rattle.listing.proofs.Texts.{said_of}
 use Rattle.listing.proofs.list.inspect.Goals as goal
 
 pub returns-in-Ok : goal.returns-in-Ok
@@ -10,7 +9,7 @@ returns-in-Ok c =
     let h = c.in-Ok.ensures in
     h.2 ∙ ap told (sym h.1)
 
-pub returns-in-Pattern : goal.returns-in-Pattern
-returns-in-Pattern c =
-    let h = subst (λ f. Fails f (judged 512 c.args.file.now)) c.in-Pattern.is c.in-Err.ensures in
-    said_of c.fault_lines.result told _ (judged 512 c.args.file.now) (sym h) c.fault_lines.ensures
+pub returns-in-Err-Pattern : goal.returns-in-Err-Pattern
+returns-in-Err-Pattern c =
+    let judged_so = subst (λ f. Fails f (judged 512 c.args.file.now)) c.in-Err-Pattern.field-0-is c.in-Err-Pattern.ensures in
+    subst (λ j. IfOk c.refusal.result (λ s. string_bytes s ≡ told j)) (sym judged_so) c.refusal.ensures

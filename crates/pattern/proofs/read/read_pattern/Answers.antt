@@ -2,12 +2,10 @@ use Rattle.pattern.proofs.Distinct.{one_meaning}
 use Rattle.pattern.proofs.Verdicts.{law}
 use Rattle.pattern.proofs.read.read_pattern.Goals as goal
 
-pub returns : goal.returns
-returns c =
-    let told = c.read_by.ensures in
-    record {
-      answer = told.answer;
-      memory = told.memory;
-      law = law c.args.file.now c.args.table.now c.read_by.new.table c.read_by.result (λ i. (c.type_inv.file i).fits) told.answer told.memory;
-      one_meaning = one_meaning;
-    }
+pub returns-clause-law : goal.returns-clause-law
+returns-clause-law c =
+    let told = c.judge_and_fill.ensures in
+    law c.args.file.now c.args.table.now c.judge_and_fill.new.table c.judge_and_fill.result (λ i. (c.type_inv.file i).fits) told.answer told.memory
+
+pub returns-clause-one_meaning : goal.returns-clause-one_meaning
+returns-clause-one_meaning c = one_meaning

@@ -1,11 +1,8 @@
 use Rattle.std.proofs.Common.{◌≡◌, length, arith}
 use Rattle.format.proofs.Exits.{at_exit}
 use Rattle.pattern.proofs.TableCompleting.{no_table}
-use Rattle.pattern.proofs.TableTurns.{none_yet, bad_entry, one_more, whole, table_of, not_whole}
+use Rattle.pattern.proofs.TableTurns.{bad_entry, one_more, whole, table_of, not_whole}
 use Rattle.pattern.proofs.table.judge_table.Goals as goal
-
-pub loop-i-init : goal.loop-i-init
-loop-i-init c = none_yet c.args.table.now c.new-judge.result c.new-judge.ensures.stands c.new-judge.ensures.free
 
 pub loop-i-preserved : goal.loop-i-preserved
 loop-i-preserved c =
