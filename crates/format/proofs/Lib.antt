@@ -1,3 +1,4 @@
+pub mod Decoding
 pub mod Spelling
 pub mod MapSpelling
 pub mod StandsAt

@@ -19,13 +19,13 @@ module _ (cs before : List PatternCommand) (e : Expr) (old new : List ℕ) (r : 
   reach : length (take r.slot old) ≡ r.slot
   reach = length-take-le r.slot old (omega (arith, w.slot))
 
-  front_rows : take r.slot new ≡ take r.slot old
+  pub front_rows : take r.slot new ≡ take r.slot old
   front_rows = ap (take r.slot) w.rows ∙ take_at (take r.slot old) (child_rows e) r.slot reach
 
   pub front_length : length (take r.slot new) ≡ r.slot
   front_length = ap length front_rows ∙ reach
 
-  back_rows : drop r.slot new ≡ child_rows e
+  pub back_rows : drop r.slot new ≡ child_rows e
   back_rows = ap (drop r.slot) w.rows ∙ drop_at (take r.slot old) (child_rows e) r.slot reach
 
 -- what working a part, two parts and the parts of a node promises

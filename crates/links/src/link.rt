@@ -1,5 +1,5 @@
 // The links of a pattern: worked from its table into lent memory, a number for each slot.
-ghost use Rattle.std.specs.Prelude.{◌≡◌, ◌<◌, ◌≤◌, length, IfErr, IsOkAnd, MatchResult, OnErr, OnOk};
+ghost use Rattle.std.specs.Prelude.{◌≡◌, ◌<◌, ◌≤◌, [], length, IfErr, IsOkAnd, MatchResult, OnErr, OnOk};
 ghost use Rattle.pattern.specs.Expressions.{Expr, table as table_of, commands as commands_of};
 ghost use Rattle.pattern.specs.Judging.{table_judged};
 ghost use Rattle.links.specs.declared.fault.LinkFault.TheVariants.{RowsMissing};
@@ -39,7 +39,8 @@ pub fn link_rows(table: &[Entry], rows: &mut [u64]) -> Result<usize, LinkFault>
     let positions = judge.positions();
     let count = slot_count(positions);
     check_room(rows.len(), count)?;
-    let commands = number_table(table)?;
+    let mut commands = ArrayVec::new();
+    number_table(table, &mut commands)?;
     work_rows(&commands, &mut rows[..count]);
     Ok(count)
 }
@@ -56,18 +57,23 @@ fn check_room(lent: usize, needed: usize) -> Result<(), LinkFault>
     Ok(())
 }
 
-// The commands of the numbered pattern, of the table of a pattern.
-fn number_table(table: &[Entry]) -> Result<ArrayVec<PatternCommand, MAX_COMMANDS>, PatternFault>
-    requires { ReadyTable table.now }
-    ensures { IsOkAnd result (λ v. (e : Expr) → table.now ≡ table_of e → v.items ≡ commands_of (numbered_of e)) }
+// The commands of the numbered pattern, of the table of a pattern. The vector for them is lent, since one that is handed
+// back is made a second time and moved whole.
+fn number_table(
+    table: &[Entry],
+    numbered: &mut ArrayVec<PatternCommand, MAX_COMMANDS>,
+) -> Result<(), PatternFault>
+    requires ready { ReadyTable table.now }
+    requires none { numbered.old.items ≡ [] }
+    ensures { IsOkAnd result (λ _. (e : Expr) →
+        table.now ≡ table_of e → numbered.new.items ≡ commands_of (numbered_of e)) }
 {
     let mut numbering = Numbering::new();
-    let mut numbered = ArrayVec::new();
     for (i, entry) in table.iter().enumerate() {
         let command = entry.command(i)?;
         numbered.push(numbering.command(command));
     }
-    Ok(numbered)
+    Ok(())
 }
 
 // The links of a numbered pattern, one for each of its slots.

@@ -2,7 +2,7 @@
 // whose parts end ever earlier. A part's slots stand side by side, a node's own behind those of its parts. Commands and
 // rows are handed on as two slices and not as one struct: each call cuts the one where a part begins and the other where
 // its slots begin. The rows are lent, so a `Part` can't hold its own, and clauses say that its slots lie within them.
-ghost use Rattle.std.specs.Prelude.{◌≡◌, ℕ, ◌+◌, ◌^◌, ◌<◌, ◌≤◌, ◌||◌, List, ◌++◌, map, length, bit_or};
+ghost use Rattle.std.specs.Prelude.{◌≡◌, ℕ, ◌+◌, ◌^◌, ◌<◌, ◌≤◌, ◌||◌, List, ◌++◌, map, length, slice_set, bit_or};
 ghost use Rattle.format.specs.declared.command.PatternCommand.{PatternCommand as Cmd};
 ghost use Rattle.pattern.specs.Expressions.{Expr, Parts, count, commands as part_commands, parts_commands};
 ghost use Rattle.links.specs.Rows.{holds, cut, any_holds, kept, child_rows, parts_rows};
@@ -92,14 +92,22 @@ fn parts_rows(commands: &[PatternCommand], below: &mut [u64], own: &mut [u64]) -
 {
     let mut start = commands.len();
     let mut slot = below.len();
-    // By index: of what a loop writes through `iter_mut().rev()` nothing is known.
+    // By place: of what a loop writes through `iter_mut().rev()` nothing is known.
     for i in (0..own.len()).rev() {
         let part = part_rows(&commands[..start], &mut below[..slot]);
-        own[i] = part.roots;
+        set_link(own, i, part.roots);
         start = part.start;
         slot = part.slot;
     }
     (start, slot)
+}
+
+// Writes the link of one of a node's own slots.
+fn set_link(own: &mut [u64], i: usize, roots: u64)
+    requires { i < length own.old }
+    ensures { own.new ≡ slice_set own.old i roots }
+{
+    own[i] = roots;
 }
 
 // The sum of two parts whose links are worked.

@@ -1,3 +1,4 @@
+pub mod Room
 pub mod Stack
 pub mod Distinct
 pub mod Turns

@@ -44,7 +44,7 @@ module _ (room : ℕ) (file : List ℕ) (all : AllBytes file) where
   pub refused : (f : PatternFault) → judged room file ≡ Err f → Refused room file f
   refused f e = record { fault = fault f e; no_pattern = λ p l h. never f (commands p) (sym e ∙ accepts room file p l h) }
 
-accepted : (file : List ℕ) (before now : List Entry) (cs : List PatternCommand) → AllBytes file → judged (length before) file ≡ Ok cs → now ≡ map entry_of cs ++ drop (length cs) before → Accepted file before now (length cs)
+pub accepted : (file : List ℕ) (before now : List Entry) (cs : List PatternCommand) → AllBytes file → judged (length before) file ≡ Ok cs → now ≡ map entry_of cs ++ drop (length cs) before → Accepted file before now (length cs)
 accepted file before now cs all e filled =
     let w = whole (length before) file all cs e in
     let p = assemble (length before) cs w.in_order w.one in

@@ -1,6 +1,6 @@
 // Reading a pattern file into the caller's table: one pass judges the whole file, and only then is the table
 // filled, so that a refused file leaves it as it was.
-ghost use Rattle.std.specs.Prelude.{◌≡◌, ◌≤◌, ◌++◌, map, length, drop, IfOk, Ok, Err, MatchResult};
+ghost use Rattle.std.specs.Prelude.{◌≡◌, ◌≤◌, [], ◌++◌, map, length, drop, Ok, Err, MatchResult, OnOk};
 ghost use Rattle.arrayvec.specs.ArrayVec.{array_vec_len};
 ghost use Rattle.format.specs.Entries.{entry_of};
 ghost use Rattle.pattern.specs.Expressions.{Expr, encode};
@@ -32,23 +32,26 @@ fn judge_and_fill(file: &[u8], table: &mut [Entry]) -> Result<usize, PatternFaul
     ensures answer { result ≡ counted (judged (length table.old) file.now) }
     ensures memory { table.new ≡ filled_by (judged (length table.old) file.now) table.old }
 {
-    let commands = judge_file(file, table.len())?;
+    let mut commands = ArrayVec::new();
+    judge_file(file, table.len(), &mut commands)?;
     fill(&commands, table);
     Ok(commands.len())
 }
 
-// All commands of the file, in order, or its first fault.
+// All commands of the file, in order, or its first fault. The vector for them is lent, since one that is handed back is
+// made a second time and moved whole.
 fn judge_file(
     file: &[u8],
     room: usize,
-) -> Result<ArrayVec<PatternCommand, MAX_COMMANDS>, PatternFault>
+    commands: &mut ArrayVec<PatternCommand, MAX_COMMANDS>,
+) -> Result<(), PatternFault>
+    requires none { commands.old.items ≡ [] }
     ensures answer { MatchResult result
-        (λ v. judged room file.now ≡ Ok v.items)
+        (λ _. judged room file.now ≡ Ok commands.new.items)
         (λ f. judged room file.now ≡ Err f) }
-    ensures few { IfOk result (λ v. array_vec_len v ≤ room) }
+    ensures few { OnOk result (array_vec_len commands.new ≤ room) }
 {
     let mut judge = Judge::new(room);
-    let mut commands = ArrayVec::new();
     let mut rest = file;
     while !rest.is_empty() {
         let at = file.len() - rest.len();
@@ -58,7 +61,7 @@ fn judge_file(
         rest = behind;
     }
     judge.finish(file.len())?;
-    Ok(commands)
+    Ok(())
 }
 
 // Writes the entry of each command to the front of the table.

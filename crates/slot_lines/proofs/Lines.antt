@@ -41,7 +41,7 @@ module _ {ps : List Position} {rows : List ℕ} {i at : ℕ} {whole text : List 
   left : child_slots i (drop i ps) ≡ slots_under i (get_or ps i d).rank ++ child_slots (i + 1) (drop (i + 1) ps)
   left = ap (child_slots i) (drop_more ps i d h) ∙ ap (λ k. slots_under i (get_or ps i d).rank ++ child_slots k (drop (i + 1) ps)) (sym (add-one i))
 
-  still_even : length rows ≡ at + (get_or ps i d).rank + length (child_slots (i + 1) (drop (i + 1) ps))
+  pub still_even : length rows ≡ at + (get_or ps i d).rank + length (child_slots (i + 1) (drop (i + 1) ps))
   still_even =
       omega (arith, so.even, ap length left, length-append (slots_under i (get_or ps i d).rank) (child_slots (i + 1) (drop (i + 1) ps)), under_length i (get_or ps i d).rank)
 

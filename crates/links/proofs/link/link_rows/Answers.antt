@@ -19,7 +19,7 @@ returns-in_err-check_room-clause-answer c =
 pub work_rows-requires : goal.work_rows-requires
 work_rows-requires c =
     let t = c.in_ok-judge.ensures.law in
-    let is = c.deref.ensures.0 ∙ c.in_ok-commands.ensures t.pattern t.holds in
+    let is = c.deref.ensures.0 ∙ c.in_ok-number_table.ensures t.pattern t.holds in
     record {
       whole = numbered t.pattern;
       is = is;
@@ -39,4 +39,4 @@ returns-clause-law c =
     let t = c.in_ok-judge.ensures.law in
     let is = c.slot_count-count.ensures ∙ ap (λ ps. length (slots ps)) c.positions-positions.ensures in
     whole_linked c.args.table.now (stands c.in_ok-judge.judge) t (length c.args.rows.now) c.args.rows.now c.work_rows.new.rows c.slot_count-count.result is
-    (c.work_rows.ensures (numbered t.pattern) (c.deref.ensures.0 ∙ c.in_ok-commands.ensures t.pattern t.holds))
+    (c.work_rows.ensures (numbered t.pattern) (c.deref.ensures.0 ∙ c.in_ok-number_table.ensures t.pattern t.holds))

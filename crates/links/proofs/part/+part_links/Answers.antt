@@ -88,7 +88,7 @@ parts_rows-loop-i-preserved t c =
       slot = search rules;
       left = λ ps before all is fits.
           let w = v.left ps before all is fits in
-          one_less v.start v.slot w.0 w.1 c.loop-i-test.true c.part_rows-part.new.rows c.part_rows-part.result c.part_rows-part.ensures.law;
+          rw c.set_link.ensures (one_less v.start v.slot w.0 w.1 c.loop-i-test.true c.part_rows-part.new.rows c.part_rows-part.result c.part_rows-part.ensures.law);
     }
 
 pub parts_rows-returns-clause-law : goal.parts_rows-returns-clause-law
