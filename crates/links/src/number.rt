@@ -4,7 +4,7 @@ ghost use Rattle.pattern.specs.declared.position.Position.{Position};
 ghost use Rattle.pattern.specs.Positions.{is_constant, new_position, new_constant};
 ghost use Rattle.links.specs.Commands.{numbered_command};
 ghost use Rattle.links.specs.Numbering.{constant_number};
-ghost use Rattle.links.specs.Slots.{slots};
+ghost use Rattle.links.specs.Slots.{slots, child_slots};
 
 use arrayvec::ArrayVec;
 use format::command::PatternCommand;
@@ -90,11 +90,19 @@ impl Numbering {
     }
 }
 
-// The number of slots of the positions.
-#[tactic(auto, using(crate::proofs::Places::slots_sum))]
+// The number of slots of the positions: the root's, and those of their children.
 pub(crate) fn slot_count(positions: &[Position]) -> usize
     requires { length positions.now ≤ 64 }
     ensures { result ≡ length (slots positions.now) }
 {
-    1 + positions.iter().map(|p| u32::from(p.rank)).sum::<u32>() as usize
+    1 + child_count(positions) as usize
+}
+
+// The number of their children's slots.
+#[tactic(auto, using(crate::proofs::Places::slots_sum))]
+fn child_count(positions: &[Position]) -> u32
+    requires { length positions.now ≤ 64 }
+    ensures { result ≡ length (child_slots 0 positions.now) }
+{
+    positions.iter().map(|p| u32::from(p.rank)).sum::<u32>()
 }

@@ -1,9 +1,10 @@
 // The slots of a pattern and their links, a line for each, by specs/Text.antt: the root's line first, and then those of
 // each position's children. The lines go into a text of the caller's, so what memory they take is that text's.
-ghost use Rattle.std.specs.Prelude.{◌≡◌, ◌+◌, ◌≤◌, ◌++◌, length, drop, take, string_bytes, slice_get, OnOk};
+ghost use Rattle.std.specs.Prelude.{◌≡◌, ◌+◌, ◌<◌, ◌≤◌, ◌++◌, length, drop, take, string_bytes, slice_get, OnOk};
 ghost use Rattle.links.specs.Slots.{slots, slots_under};
 ghost use Rattle.slot_lines.specs.Text.{slot_line, slot_lines};
 ghost use Rattle.slot_lines.specs.SlotText.{slot_text};
+ghost use Rattle.slot_lines.specs.declared.words.Slot.TheVariants.{Child};
 
 use crate::words::{Link, Named, Slot};
 use pattern::position::Position;
@@ -38,6 +39,27 @@ impl Slots<'_> {
         writeln!(out, "slot {number}: {slot}, link {row}: {link}")
     }
 
+    // Adds the line of the slot behind i others of its position, of which the first has the number `first`.
+    fn push_child(
+        &self,
+        out: &mut String,
+        named: Named,
+        first: usize,
+        i: usize,
+        row: u64,
+    ) -> Result<(), AllocError>
+        requires known { slice_get self.now.positions.now named.number ≡ Some named.position }
+        requires numbered { first + i < length self.now.rows.now }
+        ensures { OnOk result (string_bytes out.new ≡ string_bytes out.old
+            ++ slot_line self.now.positions.now (first + i) (slot_text (Child (i + 1) named)) row) }
+    {
+        let slot = Slot::Child {
+            number: i + 1,
+            parent: named,
+        };
+        self.push_line(out, first + i, slot, row)
+    }
+
     // Adds the lines of one position's slots, of which the first has the number `first`.
     #[tactic(auto, using(crate::proofs::Lines::line_steps))]
     fn push_children(&self, out: &mut String, named: Named, first: usize) -> Result<(), AllocError>
@@ -50,11 +72,7 @@ impl Slots<'_> {
     {
         let end = first + usize::from(named.position.rank);
         for (i, row) in self.rows[first..end].iter().enumerate() {
-            let slot = Slot::Child {
-                number: i + 1,
-                parent: named,
-            };
-            self.push_line(out, first + i, slot, *row)?;
+            self.push_child(out, named, first, i, *row)?;
         }
         Ok(())
     }

@@ -1,6 +1,6 @@
 // The words by which positions, slots and links are named, by specs/Text.antt. Each of these values prints its own, and
 // its `output` says which they are.
-ghost use Rattle.std.specs.Prelude.{◌≤◌, length, Some};
+ghost use Rattle.std.specs.Prelude.{◌≡◌, ◌≤◌, length, codes, Some};
 ghost use Rattle.slot_lines.specs.Text.{position_name, link_names};
 ghost use Rattle.slot_lines.specs.SlotText.{slot_text};
 
@@ -47,6 +47,13 @@ impl fmt::Display for Slot {
     }
 }
 
+// What stands between two names.
+fn between() -> &'static str
+    ensures { result.now ≡ codes ", " }
+{
+    ", "
+}
+
 // A link, which prints as the positions that its number holds, or as "none".
 #[derive(Clone, Copy)]
 pub(crate) struct Link<'a> {
@@ -73,7 +80,7 @@ impl fmt::Display for Link<'_> {
                 position: *position,
             };
             write!(f, "{comma}{name}")?;
-            comma = ", ";
+            comma = between();
         }
         Ok(())
     }
